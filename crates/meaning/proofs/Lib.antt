@@ -1,0 +1,5 @@
+pub mod Integers
+pub mod Machine
+pub mod Members
+pub mod Over
+pub mod Wrapping

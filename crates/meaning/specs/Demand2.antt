@@ -1,0 +1,82 @@
+-- Demand 2, for whole normal sets: neg, abs, add and sub return just the point results; every other operation a set that holds every point result.
+-- The theorem is `demand2` of proofs/Demand2.antt. Assumes nothing.
+use lib.IntN.{ℤ, pos}
+use lib.ListN.{length}
+use mathlib.Core.Path.{_≡_}
+use mathlib.Core.Bool.{Bool, true, false}
+use mathlib.Core.Logic.{_⊎_}
+use mathlib.Core.Option.{Option, some}
+use Prim.Native.Nat.{ℕ, _≤_}
+use Rattle.meaning.specs.Number.{Op1, neg, abs, Op2, add, sub, div, rem, point1, point2}
+use Rattle.meaning.specs.Interval.{Proper, PairOp, negPair, absPair, addPair, subPair, mulPair, divPair, remPair}
+use Rattle.meaning.specs.NumberIntervals.{Set, _∈_, Normal, rebuild, union, intersect, set1, set2, flag2}
+
+-- z is the point result of a member, or of a member of each set
+pub record Result1 (o : Op1) (a : Set) (z : ℤ) : Type 0 where
+  pub member : ℤ
+  pub member-in : member ∈ a
+  pub gives : point1 o member ≡ z
+
+pub record Result2 (o : Op2) (a b : Set) (z : ℤ) : Type 0 where
+  pub left : ℤ
+  pub right : ℤ
+  pub left-in : left ∈ a
+  pub right-in : right ∈ b
+  pub gives : point2 o left right ≡ some z
+
+-- every point result is a member of the answer
+abbrev pub Holds1 : Op1 → Type 0
+Holds1 o = (a : Set) (z : ℤ) → Normal a → Result1 o a z → z ∈ set1 o a
+
+abbrev pub Holds2 : Op2 → Type 0
+Holds2 o = (a b : Set) (z : ℤ) → Normal a → Normal b → Result2 o a b z → z ∈ set2 o a b
+
+-- every member of the answer is a point result
+abbrev pub Only1 : Op1 → Type 0
+Only1 o = (a : Set) (z : ℤ) → Normal a → z ∈ set1 o a → Result1 o a z
+
+abbrev pub Only2 : Op2 → Type 0
+Only2 o = (a b : Set) (z : ℤ) → Normal a → Normal b → z ∈ set2 o a b → Result2 o a b z
+
+-- the flag is set just when the left set has a member and 0 is in the right one
+pub record FlagIs (o : Op2) : Type 0 where
+  pub set-if : (a b : Set) (x : ℤ) → Normal a → Normal b → x ∈ a → pos 0 ∈ b → flag2 o false a b ≡ true
+  pub only-if : (a b : Set) → Normal a → Normal b → flag2 o false a b ≡ true → ((x : ℤ) × (x ∈ a)) × (pos 0 ∈ b)
+
+-- at most k intervals for one interval, or one pair
+abbrev pub Few1 : ℕ → (ℤ → ℤ → Set) → Type 0
+Few1 k f = (s e : ℤ) → Proper s e → length (f s e) ≤ k
+
+abbrev pub Few2 : ℕ → PairOp → Type 0
+Few2 k f = (s e t g : ℤ) → Proper s e → Proper t g → length (f s e t g) ≤ k
+
+pub record Demand2 : Type 0 where
+  pub holds1 : (o : Op1) → Holds1 o
+  pub holds2 : (o : Op2) → Holds2 o
+  pub neg-only : Only1 neg
+  pub abs-only : Only1 abs
+  pub add-only : Only2 add
+  pub sub-only : Only2 sub
+  -- the members of union and intersect
+  pub union-holds : (a b : Set) (z : ℤ) → Normal a → Normal b → (z ∈ a) ⊎ (z ∈ b) → z ∈ union a b
+  pub union-only : (a b : Set) (z : ℤ) → Normal a → Normal b → z ∈ union a b → (z ∈ a) ⊎ (z ∈ b)
+  pub intersect-holds : (a b : Set) (z : ℤ) → Normal a → Normal b → z ∈ a → z ∈ b → z ∈ intersect a b
+  pub intersect-only : (a b : Set) (z : ℤ) → Normal a → Normal b → z ∈ intersect a b → (z ∈ a) × (z ∈ b)
+  -- every answer is normal, so its ends are from MIN to MAX
+  pub normal1 : (o : Op1) (a : Set) → Normal a → Normal (set1 o a)
+  pub normal2 : (o : Op2) (a b : Set) → Normal a → Normal b → Normal (set2 o a b)
+  pub union-normal : (a b : Set) → Normal a → Normal b → Normal (union a b)
+  pub intersect-normal : (a b : Set) → Normal a → Normal b → Normal (intersect a b)
+  -- the flag of div and rem
+  pub div-flag : FlagIs div
+  pub rem-flag : FlagIs rem
+  -- the work of one pair: 2, 12 and 16 intervals
+  pub neg-few : Few1 2 negPair
+  pub abs-few : Few1 2 absPair
+  pub add-few : Few2 2 addPair
+  pub sub-few : Few2 2 subPair
+  pub mul-few : Few2 2 mulPair
+  pub div-few : Few2 12 divPair
+  pub rem-few : Few2 16 remPair
+  -- a set is fixed by its members, so the way of joining does not matter
+  pub unique : (a b : Set) → Normal a → Normal b → ((z : ℤ) → z ∈ a → z ∈ b) → ((z : ℤ) → z ∈ b → z ∈ a) → a ≡ b

@@ -1,0 +1,16 @@
+pub mod Refusals
+pub mod Lists
+pub mod Number
+pub mod Bools
+pub mod Interval
+pub mod NumberIntervals
+pub mod SetCalls
+pub mod Outcome
+pub mod Sheet
+pub mod Reading
+pub mod Text
+pub mod Run
+pub mod Check
+pub mod Listing
+pub mod Demand2
+pub mod Demand3
