@@ -3,3 +3,5 @@ pub mod Machine
 pub mod Members
 pub mod Over
 pub mod Wrapping
+pub mod Readings
+pub mod SheetReadings

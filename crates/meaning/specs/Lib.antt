@@ -14,3 +14,5 @@ pub mod Check
 pub mod Listing
 pub mod Demand2
 pub mod Demand3
+pub mod Readings
+pub mod SheetReadings

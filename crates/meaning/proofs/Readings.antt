@@ -1,0 +1,47 @@
+-- The values of specs/Readings.antt, by computation. Assumes nothing.
+use mathlib.Core.Path.{refl}
+use Rattle.meaning.specs.Number.{within, window, wrap, negative, absolute, sum, product, quotient, remainder, next, prev, point1, point2}
+use Rattle.meaning.specs.Interval.{each, without, negPair, absRest, absPair, pieces, split, spread, addPair, leastCorner, greatestCorner, mulPair, divPiece, divPart, divPair, against, remMagnitudes, ruleF, remStep, remWith, remPair}
+use Rattle.meaning.specs.NumberIntervals.{contains, insert, rebuild, union, asBools, ofBools, someOf, leBools, ltBools, neBools, set1, set2, flag2}
+use Rattle.meaning.specs.Readings.{Readings}
+
+pub readings : Readings
+unfolding within window wrap negative absolute sum product quotient remainder next prev point1 point2 each without negPair absRest absPair pieces split spread addPair leastCorner greatestCorner mulPair divPiece divPart divPair against remMagnitudes ruleF remStep remWith remPair contains insert rebuild union asBools ofBools someOf leBools ltBools neBools set1 set2 flag2
+readings = record {
+  mul-to-zero = refl;
+  div-wraps = refl;
+  div-unscaled = refl;
+  rem-sign = refl;
+  rem-minus-one = refl;
+  div-none = refl;
+  abs-least = refl;
+  neg-least = refl;
+  next-greatest = refl;
+  next-least = refl;
+  prev-least = refl;
+  empty-and-zero = refl;
+  empty-and-five = refl;
+  empty-or-five = refl;
+  empty-not = refl;
+  empty-ne = refl;
+  both-ordered = refl;
+  lt-equal = refl;
+  lt-either = refl;
+  add-splits = refl;
+  windows-0-1 = refl;
+  windows-1-2 = refl;
+  windows-below-0 = refl;
+  least-scaled = refl;
+  div-pieces = refl;
+  div-windows-1-2 = refl;
+  div-far = refl;
+  div-least = refl;
+  rem-negative = refl;
+  rem-against = refl;
+  abs-both-sides = refl;
+  abs-only-least = refl;
+  touching-joined = refl;
+  missing-one = refl;
+  empty-left-flag = refl;
+  zero-flag = refl;
+}

@@ -1,0 +1,74 @@
+-- The values of specs/SheetReadings.antt, by computation. Assumes nothing.
+use mathlib.Core.Path.{refl}
+use Rattle.meaning.specs.Lists.{over}
+use Rattle.meaning.specs.Number.{within, window, wrap, negative, sum, quotient, point1, point2}
+use Rattle.meaning.specs.Interval.{each, without, negPair, pieces, spread, leastCorner, greatestCorner, divPiece, divPart, divPair}
+use Rattle.meaning.specs.NumberIntervals.{contains, insert, rebuild, asBools, ofBools, set1, set2, flag1, flag2, flat, intervals, normal}
+use Rattle.meaning.specs.SetCalls.{factor1, factor2, refusal, refusal2, callReturns, callOut, callWork}
+use Rattle.meaning.specs.Outcome.{bind, work}
+use Rattle.meaning.specs.Sheet.{farForm, farAct, farLine, crossedAct, crossedLine}
+use Rattle.meaning.specs.Reading.{closed, begins, digits, number, scale, decimals, unsigned, literal, registerWith, head, start, arg, form, bounds, value, actOf, lineOf, wholeLine, judged, readLine}
+use Rattle.meaning.specs.Text.{splitLines, lineAt, cut, admit, readOne, readLines, read}
+use Rattle.meaning.specs.Run.{valueOf, runAct, runLine, startNumbers, run, runText}
+use Rattle.meaning.specs.Check.{inside, settle, setOf, checkAct, checkLine, check, checkText, slot}
+use Rattle.meaning.specs.SheetReadings.{SheetReadings}
+
+pub sheet-readings : SheetReadings
+unfolding over within window wrap negative sum quotient point1 point2 each without negPair pieces spread leastCorner greatestCorner divPiece divPart divPair contains insert rebuild asBools ofBools set1 set2 flag1 flag2 flat intervals normal factor1 factor2 refusal refusal2 callReturns callOut callWork bind work farForm farAct farLine crossedAct crossedLine closed begins digits number scale decimals unsigned literal registerWith head start arg form bounds value actOf lineOf wholeLine judged readLine splitLines lineAt cut admit readOne readLines read valueOf runAct runLine startNumbers run runText inside settle setOf checkAct checkLine check checkText slot
+sheet-readings = record {
+  many-before-odd = refl;
+  odd = refl;
+  touching-refused = refl;
+  empty-fine = refl;
+  left-first = refl;
+  full-need = refl;
+  neg-returns = refl;
+  neg-out = refl;
+  neg-work = refl;
+  short-work = refl;
+  short-work-left = refl;
+  short-out = refl;
+  short-out-left = refl;
+  short-out-work = refl;
+  empty-text = refl;
+  empty-line = refl;
+  no-last-feed = refl;
+  long-line = refl;
+  line-of-120 = refl;
+  lines-257 = refl;
+  lines-256 = refl;
+  line-by-line = refl;
+  grammar-first = refl;
+  grammar-first-behind = refl;
+  far-before-crossed = refl;
+  crossed-before-misplaced = refl;
+  in-late = refl;
+  in-twice = refl;
+  needless-zero = refl;
+  bare-point = refl;
+  four-decimals = refl;
+  register-16 = refl;
+  register-01 = refl;
+  bracketed-literal = refl;
+  trailing-space = refl;
+  double-space = refl;
+  carriage-return = refl;
+  least-literal = refl;
+  greatest-literal = refl;
+  past-greatest = refl;
+  minus-zero = refl;
+  eight-brackets = refl;
+  nine-brackets = refl;
+  operators = refl;
+  line-zero = refl;
+  line-one = refl;
+  line-two = refl;
+  cut-one = refl;
+  run-stops = refl;
+  no-short-cut = refl;
+  check-zero = refl;
+  check-hold = refl;
+  put-old-state = refl;
+  untouched-slot = refl;
+  crowded-before-zero = refl;
+}
