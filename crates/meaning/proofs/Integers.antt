@@ -53,6 +53,11 @@ pub cond-case {ℓ ℓ′} : {A : Type ℓ} (P : A → Type ℓ′) (t : Bool) (
 cond-case P true x y f g = f refl
 cond-case P false x y f g = g refl
 
+-- two choices by the same test
+pub cond-same {ℓ} : {A : Type ℓ} (t : Bool) {x x′ y y′ : A} → (t ≡ true → x ≡ x′) → (t ≡ false → y ≡ y′) → cond t x y ≡ cond t x′ y′
+cond-same true f g = f refl
+cond-same false f g = g refl
+
 -- a choice by a test that is known
 pub if-yes {ℓ} : {A : Type ℓ} {t : Bool} (a b : A) → t ≡ true → a ≡ cond t a b
 if-yes a b e = ap (λ (t : Bool). cond t a b) (sym e)
@@ -74,6 +79,10 @@ pub and-both : (a b : Bool) → (a && b) ≡ true → (a ≡ true) × (b ≡ tru
 and-both true b e = (refl, e)
 and-both false b e = never (sym e)
 
+pub and-cases : (a b : Bool) → (a && b) ≡ false → (a ≡ false) ⊎ (b ≡ false)
+and-cases true b e = inr e
+and-cases false b e = inl refl
+
 pub or-left : {a : Bool} (b : Bool) → a ≡ true → (a || b) ≡ true
 or-left b e = ap (λ (a : Bool). a || b) e
 
@@ -88,6 +97,14 @@ or-cases false b e = inr e
 pub or-none : (a b : Bool) → (a || b) ≡ false → (a ≡ false) × (b ≡ false)
 or-none true b e = never e
 or-none false b e = (refl, e)
+
+pub not-true : (a : Bool) → not a ≡ true → a ≡ false
+not-true true e = sym e
+not-true false e = refl
+
+pub not-false : (a : Bool) → not a ≡ false → a ≡ true
+not-false true e = refl
+not-false false e = sym e
 
 -- two tests that say the same
 pub same-test : (a b : Bool) → (a ≡ true → b ≡ true) → (b ≡ true → a ≡ true) → a ≡ b

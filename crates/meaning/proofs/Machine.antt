@@ -4,14 +4,15 @@ use mathlib.Core.Bool.{Bool, true, false}
 use Prim.Native.Nat.{ℕ, zero, suc, _+_, _-_, _*_, _/_, _%_, _^_, _≤_, _<_, min, max}
 use native.Mathlib.Nat.{zero-div, div-le-self, div-lt-self, lt-of-le-of-lt, lt-of-lt-of-le}
 use native.Mathlib.Omega.{arith}
-use lib.Dec.{T, ltb}
+use lib.Dec.{T, eqb, ltb}
+use borrow.Author.Tests.{eqb-true, eqb-false}
 use lib.IntN.{ℤ, pos, negsuc, negℤ, natAbs, _+ℤ_, _-ℤ_, +ℤ-idl}
 use lib.Signed.{_≤ℤ_, _<ℤ_, leZ, ltZ, nonNeg, mag, quotZ, remZ, mag-rem}
 use mir.Syntax.{w64}
 use mir.Val.{Fits, SFits, toZ, ofZ}
 use mir.Facts.{toZ-ofZ, sfits-lit}
-use Rattle.meaning.specs.Number.{MIN, MAX, Between, InRange}
-use Rattle.meaning.proofs.Integers.{up, down, zarith, lt-in, ne-in, one-part, abs-parts, add-parts, sub-parts, up-quot, down-quot, up-quot-neg, down-quot-neg}
+use Rattle.meaning.specs.Number.{MIN, MAX, Between, InRange, eqZ}
+use Rattle.meaning.proofs.Integers.{up, down, zarith, by-test, lt-in, ne-in, one-part, abs-parts, add-parts, sub-parts, up-quot, down-quot, up-quot-neg, down-quot-neg}
 
 -- ---- the range of an i64
 
@@ -56,6 +57,10 @@ ok h = record { sfits = h }
 -- the same with the number written out, for a slice's element (`fit z (c .x .given)`) or a struct's field (`fit (s .args .v .start) (c .struct-told .given .0 .1)`)
 pub fit : (z : ℤ) → mag z < 2 ^ 63 → SFits w64 z
 fit z h = record { sfits = h }
+
+-- an element of a slice or a field, read back: `back z (c .x .given)`
+pub back : (z : ℤ) → mag z < 2 ^ 63 → rd z ≡ z
+back z h = toZ-ofZ (fit z h)
 
 pub rd-fits : {z : ℤ} → SFits w64 z → SFits w64 (rd z)
 rd-fits {z} h = subst (SFits w64) (sym (toZ-ofZ h)) h
@@ -173,6 +178,12 @@ ltZ-is f g i = ltZ (toZ-ofZ f i) (toZ-ofZ g i)
 
 pub leZ-is : {x y : ℤ} → SFits w64 x → SFits w64 y → leZ (rd x) (rd y) ≡ leZ x y
 leZ-is f g i = leZ (toZ-ofZ f i) (toZ-ofZ g i)
+
+pub eqb-is : {x y : ℤ} → SFits w64 x → SFits w64 y → eqb (ofZ w64 x) (ofZ w64 y) ≡ eqZ x y
+eqb-is {x} {y} f g =
+    by-test (eqb (ofZ w64 x) (ofZ w64 y))
+    (λ t. let e = same f g (eqb-true _ _ t) in let u : eqZ x y ≡ true = omega zarith in t ∙ sym u)
+    (λ t. let d = differ x y (eqb-false _ _ t) in let u : eqZ x y ≡ false = omega zarith in t ∙ sym u)
 
 -- ---- MIN..MAX is the range of an i64
 

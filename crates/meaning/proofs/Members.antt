@@ -2,7 +2,7 @@
 use lib.IntN.{ℤ}
 use lib.ListN.{length, length-append}
 use lib.Signed.{_≤ℤ_, ≤ℤ-refl}
-use mathlib.Core.Path.{_≡_, refl, sym, ap, _∙_}
+use mathlib.Core.Path.{_≡_, refl, sym, ap, ap₂, _∙_}
 use mathlib.Core.Bool.{Bool, true, false, cond, _||_}
 use mathlib.Core.Logic.{_⊎_, inl, inr}
 use mathlib.Core.List.{List, [], _∷_, _++_}
@@ -105,6 +105,11 @@ pub length-each : (P : ℤ → ℤ → Type 0) (m : ℕ) (g : ℤ → ℤ → Li
 unfolding each
 length-each P m g [] p k = omega arith
 length-each P m g (i ∷ r) p k = omega (arith, length-append (g (i .lo) (i .hi)) (each g r), k (i .lo) (i .hi) (p .0), length-each P m g r (p .1) k)
+
+pub each-same : (P : ℤ → ℤ → Type 0) (g h : ℤ → ℤ → List Interval) (l : List Interval) → Each P l → ((a b : ℤ) → P a b → g a b ≡ h a b) → each g l ≡ each h l
+unfolding each
+each-same P g h [] p k = refl
+each-same P g h (i ∷ r) p k = ap₂ _++_ (k (i .lo) (i .hi) (p .0)) (each-same P g h r (p .1) k)
 
 -- an interval of the list whose results hold z
 pub record Origin (P : ℤ → ℤ → Type 0) (g : ℤ → ℤ → List Interval) (l : List Interval) (z : ℤ) : Type 0 where

@@ -6,7 +6,7 @@ use Prim.Native.Nat.{ℕ, zero, suc, _+_, _-_, _≤_, _<_}
 use native.Mathlib.Omega.{arith}
 use native.Mathlib.Nat.{zero-add}
 use native.Mathlib.Numerals.{add-one}
-use lib.ListN.{length, getD, set, take, drop, replicate, length-drop, length-append, length-replicate, replicate-append-replicate, drop-of-length-le}
+use lib.ListN.{length, getD, set, take, drop, replicate, length-drop, length-append, length-replicate, replicate-append-replicate, drop-of-length-le, List·getD-append}
 use lib.Seq.{take-append-seam, drop-append-seam, drop-append-le, drop-drop, set-append-seam, drop-cons, sets, sets-eq, slice, length-slice, length-take-le, take-suc, take-at, drop-at, take-all}
 use Rattle.meaning.specs.Lists.{over}
 
@@ -26,6 +26,11 @@ module _ {ℓ} {A : Type ℓ} where
   pub take-over : (xs old : List A) → take (length xs) (over xs old) ≡ xs
   unfolding over
   take-over xs old = take-append-seam xs (drop (length xs) old)
+
+  -- a place in what is written
+  pub over-first : (xs old : List A) (i : ℕ) (d : A) → i < length xs → getD (over xs old) i d ≡ getD xs i d
+  unfolding over
+  over-first xs old i d h = List·getD-append xs (drop (length xs) old) d i h
 
   -- untouched beyond
   pub drop-over : (xs old : List A) (j : ℕ) → length xs ≤ j → drop j (over xs old) ≡ drop j old
@@ -74,6 +79,10 @@ module _ {ℓ} {A : Type ℓ} where
   slice-snoc s f t d h k =
       let e = length-take-le t s (omega arith) in
       sym (ap (drop f) (rw add-one (take-suc s t d k)) ∙ drop-append-le f (take t s) (getD s t d ∷ []) (omega arith))
+
+  pub over-take : (old s : List A) (i : ℕ) (d : A) → i < length old → i < length s → set (over (take i s) old) i (getD s i d) ≡ over (take (i + 1) s) old
+  over-take old s i d h k =
+      over-store-at (take i s) old (getD s i d) i (length-take-le i s (omega arith)) h ∙ ap (λ (l : List A). over l old) (sym (rw add-one (take-suc s i d k)))
 
   pub over-copy : (old s : List A) (a i : ℕ) (d : A) → i < length old → a + i < length s → set (over (slice a (a + i) s) old) i (getD s (a + i) d) ≡ over (slice a (a + (i + 1)) s) old
   over-copy old s a i d h k =

@@ -9,12 +9,12 @@ use Rattle.meaning.specs.Outcome.{bind, work}
 use Rattle.meaning.specs.Sheet.{farForm, farAct, farLine, crossedAct, crossedLine}
 use Rattle.meaning.specs.Reading.{closed, begins, digits, number, scale, decimals, unsigned, literal, registerWith, head, start, arg, form, bounds, value, actOf, lineOf, wholeLine, judged, readLine}
 use Rattle.meaning.specs.Text.{splitLines, lineAt, cut, admit, readOne, readLines, read}
-use Rattle.meaning.specs.Run.{valueOf, runAct, runLine, startNumbers, run, runText}
-use Rattle.meaning.specs.Check.{inside, settle, setOf, checkAct, checkLine, check, checkText, slot}
+use Rattle.meaning.specs.Run.{valueOf, runAct, runLine, startNumbers, run, runText, runCall, runLent}
+use Rattle.meaning.specs.Check.{inside, settle, setOf, checkAct, checkLine, check, checkText, checkCall, slot}
 use Rattle.meaning.specs.SheetReadings.{SheetReadings}
 
 pub sheet-readings : SheetReadings
-unfolding over within window wrap negative sum quotient point1 point2 each without negPair pieces spread leastCorner greatestCorner divPiece divPart divPair contains insert rebuild asBools ofBools set1 set2 flag1 flag2 flat intervals normal factor1 factor2 refusal refusal2 callReturns callOut callWork bind work farForm farAct farLine crossedAct crossedLine closed begins digits number scale decimals unsigned literal registerWith head start arg form bounds value actOf lineOf wholeLine judged readLine splitLines lineAt cut admit readOne readLines read valueOf runAct runLine startNumbers run runText inside settle setOf checkAct checkLine check checkText slot
+unfolding over within window wrap negative sum quotient point1 point2 each without negPair pieces spread leastCorner greatestCorner divPiece divPart divPair contains insert rebuild asBools ofBools set1 set2 flag1 flag2 flat intervals normal factor1 factor2 refusal refusal2 callReturns callOut callWork bind work farForm farAct farLine crossedAct crossedLine closed begins digits number scale decimals unsigned literal registerWith head start arg form bounds value actOf lineOf wholeLine judged readLine splitLines lineAt cut admit readOne readLines read valueOf runAct runLine startNumbers run runText runCall runLent inside settle setOf checkAct checkLine check checkText checkCall slot
 sheet-readings = record {
   many-before-odd = refl;
   odd = refl;
@@ -65,6 +65,9 @@ sheet-readings = record {
   line-two = refl;
   cut-one = refl;
   run-stops = refl;
+  run-left = refl;
+  run-short = refl;
+  check-short = refl;
   no-short-cut = refl;
   check-zero = refl;
   check-hold = refl;

@@ -9,10 +9,14 @@ pub mod Outcome
 pub mod Sheet
 pub mod Reading
 pub mod Text
+pub mod ReadLaws
 pub mod Run
 pub mod Check
+pub mod CheckSets
 pub mod Listing
+pub mod Marked
 pub mod Demand2
 pub mod Demand3
 pub mod Readings
 pub mod SheetReadings
+pub mod Demand3Calls

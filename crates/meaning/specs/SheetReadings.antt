@@ -12,8 +12,8 @@ use Rattle.meaning.specs.Interval.{span}
 use Rattle.meaning.specs.SetCalls.{refusal, refusal2, factor2, need2, written, refused, returns1, out1, work1}
 use Rattle.meaning.specs.Sheet.{lit, reg, form1, form2, put, hold, act}
 use Rattle.meaning.specs.Text.{sheet, noSheet, read, lineAt, cut}
-use Rattle.meaning.specs.Run.{worked, runText}
-use Rattle.meaning.specs.Check.{startSets, settle, checkText, slot}
+use Rattle.meaning.specs.Run.{worked, runText, verdict, runCall, runLent}
+use Rattle.meaning.specs.Check.{startSets, settle, checkText, checkCall, slot}
 
 pub record SheetReadings : Type 0 where
   -- 33 numbers are too many, 31 are odd
@@ -90,6 +90,11 @@ pub record SheetReadings : Type 0 where
   pub cut-one : cut (97 ∷ 10 ∷ 98 ∷ 10 ∷ []) 1 ≡ 97 ∷ 10 ∷ []
   -- 22 on line 2: register 0 has its lent number, register 1 still 0
   pub run-stops : runText (pos 5000 ∷ pos 9000 ∷ []) (40 ∷ 105 ∷ 110 ∷ 32 ∷ 48 ∷ 32 ∷ 48 ∷ 32 ∷ 57 ∷ 41 ∷ 10 ∷ 40 ∷ 105 ∷ 110 ∷ 32 ∷ 49 ∷ 32 ∷ 48 ∷ 32 ∷ 49 ∷ 41 ∷ 10 ∷ []) ≡ worked 2 (stopped outsideIn 2 (pos 5000 ∷ replicate 15 (pos 0)))
+  -- what a stop leaves: the state before the line, and numbers past the first 16 as lent
+  pub run-left : runLent (40 ∷ 105 ∷ 110 ∷ 32 ∷ 48 ∷ 32 ∷ 48 ∷ 32 ∷ 57 ∷ 41 ∷ 10 ∷ 40 ∷ 105 ∷ 110 ∷ 32 ∷ 49 ∷ 32 ∷ 48 ∷ 32 ∷ 49 ∷ 41 ∷ 10 ∷ []) (replicate 17 (pos 5000)) ≡ pos 5000 ∷ (replicate 15 (pos 0) ++ pos 5000 ∷ [])
+  -- fewer than 16 lent numbers are 3, before 5
+  pub run-short : verdict (runCall (120 ∷ []) []) ≡ record { number = tooShort; line = 0; count = 0 }
+  pub check-short : verdict (checkCall (120 ∷ []) [] []) ≡ record { number = tooShort; line = 0; count = 0 }
   -- both arguments are always worked
   pub no-short-cut : runText [] (40 ∷ 112 ∷ 117 ∷ 116 ∷ 32 ∷ 48 ∷ 32 ∷ 40 ∷ 97 ∷ 110 ∷ 100 ∷ 32 ∷ 48 ∷ 32 ∷ 40 ∷ 100 ∷ 105 ∷ 118 ∷ 32 ∷ 49 ∷ 32 ∷ 48 ∷ 41 ∷ 41 ∷ 41 ∷ 10 ∷ []) ≡ worked 1 (stopped zeroDivisor 1 (replicate 16 (pos 0)))
   pub check-zero : checkText 16 (40 ∷ 112 ∷ 117 ∷ 116 ∷ 32 ∷ 48 ∷ 32 ∷ 40 ∷ 97 ∷ 110 ∷ 100 ∷ 32 ∷ 48 ∷ 32 ∷ 40 ∷ 100 ∷ 105 ∷ 118 ∷ 32 ∷ 49 ∷ 32 ∷ 48 ∷ 41 ∷ 41 ∷ 41 ∷ 10 ∷ []) ≡ worked 1 (stopped zeroDivisor 1 startSets)

@@ -1,0 +1,47 @@
+-- Demand 3 for the calls: the same statement about what `check` and `run` return and leave in their slices, wherever these are long enough and whatever else they held.
+-- The theorem is `demand3-calls` of proofs/Demand3Calls.antt. Assumes nothing.
+use lib.IntN.{ℤ, pos}
+use lib.ListN.{getD, length}
+use mathlib.Core.Path.{_≡_}
+use mathlib.Core.List.{List}
+use Prim.Native.Nat.{ℕ, _<_, _≤_}
+use Rattle.meaning.specs.Outcome.{Outcome, done}
+use Rattle.meaning.specs.NumberIntervals.{_∈_}
+use Rattle.meaning.specs.Sheet.{registers, Line}
+use Rattle.meaning.specs.Text.{cut, sheet, read}
+use Rattle.meaning.specs.Run.{Verdict, verdict, runCall, runLent, stateAfter, LentInside}
+use Rattle.meaning.specs.Check.{setsNeed, workNeed, checkCall, checkSets, setIn}
+
+-- what a pass of n lines, or a run of n lines that is done, returns
+abbrev pub fulfilled : ℕ → Verdict
+fulfilled n = record { number = 0; line = 0; count = n }
+
+-- the slices lent to the check are long enough
+pub record Enough (sets work : List ℤ) : Type 0 where
+  pub sets-long : setsNeed ≤ length sets
+  pub work-long : workNeed ≤ length work
+
+-- after line m of t, which reads as ls
+pub record CallsSafeAt (lent : List ℤ) (t : List ℕ) (ls : List Line) (m : ℕ) : Type 0 where
+  pub state : List ℤ
+  pub reaches : stateAfter lent ls m ≡ done state
+  -- the check passes the cut sheet, and in the numbers that it leaves each register's number is in the register's set
+  pub passes : (sets work : List ℤ) → Enough sets work → verdict (checkCall (cut t m) sets work) ≡ fulfilled m
+  pub members : (sets work : List ℤ) → Enough sets work → (r : ℕ) → r < registers → getD state r (pos 0) ∈ setIn (checkSets (cut t m) sets work) r
+  -- the run of the cut sheet is done, and leaves that state
+  pub runs : verdict (runCall (cut t m) lent) ≡ fulfilled m
+  pub leaves : (r : ℕ) → r < registers → getD (runLent (cut t m) lent) r (pos 0) ≡ getD state r (pos 0)
+
+pub record CallsSafe (lent : List ℤ) (t : List ℕ) (n : ℕ) : Type 0 where
+  pub lines : List Line
+  pub reads : read t ≡ sheet lines
+  pub count : length lines ≡ n
+  -- before the first line, after each line, and so after the last one, where the cut sheet is the sheet
+  pub each : (m : ℕ) → m ≤ n → CallsSafeAt lent t lines m
+  pub whole : cut t n ≡ t
+
+-- for every text that the check passes, and every lent list inside its `in` lines
+abbrev pub CallsSafety : Type 0
+CallsSafety =
+    (t : List ℕ) (sets work lent : List ℤ) (n : ℕ) → Enough sets work → registers ≤ length lent → verdict (checkCall t sets work) ≡ fulfilled n → LentInside lent t
+    → CallsSafe lent t n

@@ -1,0 +1,40 @@
+-- The point operations by the cases that the code takes. Assumes nothing.
+use mathlib.Core.Path.{_≡_, refl, sym, ap, _∙_}
+use lib.IntN.{ℤ, pos, negsuc, negℤ, sucℤ, predℤ, _+ℤ_, _-ℤ_}
+use lib.Signed.{_≤ℤ_, _<ℤ_, quotZ, remZ}
+use mir.Syntax.{w64}
+use mir.Val.{SFits}
+use Rattle.meaning.specs.Number.{wrap, negative, absolute}
+use Rattle.meaning.proofs.Integers.{zarith, up-neg, down-neg, add-parts, sub-parts, suc-parts, pred-parts, up-quot-neg, down-quot-neg, up-rem, down-rem}
+use Rattle.meaning.proofs.Wrapping.{wrap-id}
+
+pub abs-neg : {x : ℤ} → x <ℤ pos 0 → negative x ≡ absolute x
+unfolding negative absolute
+abs-neg {x = pos n} h = omega zarith
+abs-neg {x = negsuc n} h = refl
+
+pub abs-pos : {x : ℤ} → SFits w64 x → pos 0 ≤ℤ x → x ≡ absolute x
+unfolding absolute
+abs-pos {x = pos n} f h = sym (wrap-id (pos n) f)
+abs-pos {x = negsuc n} f h = omega zarith
+
+-- by −1
+pub quot-minus : (x : ℤ) {y : ℤ} → y ≡ negsuc 0 → negative x ≡ wrap (quotZ x y)
+unfolding negative
+quot-minus x {y} e = ap wrap (at x ∙ ap (quotZ x) (sym e))
+  where
+    at : (x : ℤ) → negℤ x ≡ quotZ x (negsuc 0)
+    at x = omega (zarith, up-neg x, down-neg x, up-quot-neg x 0, down-quot-neg x 0)
+
+pub rem-minus : (x : ℤ) {y : ℤ} → y ≡ negsuc 0 → pos 0 ≡ remZ x y
+rem-minus x {y} e = at x ∙ ap (remZ x) (sym e)
+  where
+    at : (x : ℤ) → pos 0 ≡ remZ x (negsuc 0)
+    at x = omega (zarith, up-rem x (negsuc 0), down-rem x (negsuc 0))
+
+-- the numbers beside x
+pub add-one-is : (x : ℤ) → x +ℤ pos 1 ≡ sucℤ x
+add-one-is x = omega (zarith, add-parts x (pos 1), suc-parts x)
+
+pub sub-one-is : (x : ℤ) → x -ℤ pos 1 ≡ predℤ x
+sub-one-is x = omega (zarith, sub-parts x (pos 1), pred-parts x)

@@ -1,0 +1,33 @@
+-- Above MIN the number before x is in range; at MIN there is none.
+-- Assumes nothing.
+use mathlib.Core.Path.{_≡_, _∙_, ap}
+use mathlib.Core.Bool.{true, false}
+use mathlib.Core.Option.{some}
+use lib.IntN.{pos}
+use lib.Signed.{ltZ}
+use Rattle.meaning.specs.Number.{MIN}
+use Rattle.meaning.specs.Number as point
+use Rattle.meaning.proofs.Integers.{zarith, if-yes, if-no}
+use Rattle.meaning.proofs.Machine.{num, lit, sub-ok, sub-is}
+use Rattle.number.proofs.Points.{sub-one-is}
+use Rattle.number.proofs.prev.Statement.{statement}
+use Rattle.number.proofs.prev.Tie as tie
+
+sub-t4 : tie.Need-sub-t4
+sub-t4 c = let f = c .before .fits .x in sub-ok f (lit (pos 1) tt) (omega (zarith, num f))
+
+returns : tie.Need-returns
+unfolding point.prev
+returns c =
+    let f = c .before .fits .x in
+    let t : ltZ MIN (c .before .args .x) ≡ true = omega (zarith, num f) in
+    ap some (sub-is f (lit (pos 1) tt) (sub-t4 c) ∙ sub-one-is (c .before .args .x)) ∙ if-yes _ _ t
+
+returns-2 : tie.Need-returns-2
+unfolding point.prev
+returns-2 c =
+    let t : ltZ MIN (c .before .args .x) ≡ false = omega (zarith, num (c .before .fits .x)) in
+    if-no _ _ t
+
+pub prev-spec : {M : Type 1} → statement M
+prev-spec = tie.close (tie.spec sub-t4 returns returns-2)
