@@ -1,11 +1,14 @@
 -- The point operations by the cases that the code takes. Assumes nothing.
 use mathlib.Core.Path.{_≡_, refl, sym, ap, _∙_}
 use lib.IntN.{ℤ, pos, negsuc, negℤ, sucℤ, predℤ, _+ℤ_, _-ℤ_}
-use lib.Signed.{_≤ℤ_, _<ℤ_, quotZ, remZ}
+use Prim.Native.Nat.{_^_, _<_}
+use lib.Signed.{_≤ℤ_, _<ℤ_, mag, quotZ, remZ}
 use mir.Syntax.{w64}
 use mir.Val.{SFits}
-use Rattle.meaning.specs.Number.{wrap, negative, absolute}
+use mir.Facts.{toZ-ofZ}
+use Rattle.meaning.specs.Number.{MIN, wrap, negative, absolute, sum, difference}
 use Rattle.meaning.proofs.Integers.{zarith, up-neg, down-neg, add-parts, sub-parts, suc-parts, pred-parts, up-quot-neg, down-quot-neg, up-rem, down-rem}
+use Rattle.meaning.proofs.Machine.{rd, num, ok, fits-out}
 use Rattle.meaning.proofs.Wrapping.{wrap-id}
 
 pub abs-neg : {x : ℤ} → x <ℤ pos 0 → negative x ≡ absolute x
@@ -38,3 +41,18 @@ add-one-is x = omega (zarith, add-parts x (pos 1), suc-parts x)
 
 pub sub-one-is : (x : ℤ) → x -ℤ pos 1 ≡ predℤ x
 sub-one-is x = omega (zarith, sub-parts x (pos 1), pred-parts x)
+
+-- what a call of neg, add or sub gives, as the machine hands it on
+module _ {x r : ℤ} (f : SFits w64 x) (h : mag r < 2 ^ 63) where
+  pub neg-gives : MIN <ℤ x → r ≡ negative (rd x) → rd r ≡ negℤ x
+  unfolding negative
+  neg-gives k e = toZ-ofZ (ok h) ∙ e ∙ ap negative (toZ-ofZ f) ∙ wrap-id (negℤ x) (fits-out _ (omega (zarith, num f, up-neg x, down-neg x)))
+
+module _ {x y r : ℤ} (f : SFits w64 x) (g : SFits w64 y) (h : mag r < 2 ^ 63) where
+  pub add-gives : r ≡ sum (rd x) (rd y) → rd r ≡ wrap (x +ℤ y)
+  unfolding sum
+  add-gives e = toZ-ofZ (ok h) ∙ e ∙ (λ i. wrap (toZ-ofZ f i +ℤ toZ-ofZ g i))
+
+  pub sub-gives : r ≡ difference (rd x) (rd y) → rd r ≡ wrap (x -ℤ y)
+  unfolding difference
+  sub-gives e = toZ-ofZ (ok h) ∙ e ∙ (λ i. wrap (toZ-ofZ f i -ℤ toZ-ofZ g i))

@@ -2,7 +2,7 @@
 -- Assumes nothing.
 use borrow.Author.Needs.{needs}
 use mathlib.Core.Path.{_≡_, _∙_, ap, sym}
-use mathlib.Core.Bool.{Bool, true, false, not}
+use mathlib.Core.Bool.{Bool, not}
 use mir.Facts.{toZ-ofZ}
 use Rattle.meaning.specs.Number.{ofBool, truth}
 use Rattle.number.proofs.not.Statement.{statement}

@@ -2,7 +2,7 @@
 -- Assumes nothing.
 use borrow.Author.Needs.{needs}
 use mathlib.Core.Path.{_≡_, _∙_, ap, sym}
-use mathlib.Core.Bool.{Bool, true, false, _||_}
+use mathlib.Core.Bool.{Bool, _||_}
 use mir.Facts.{toZ-ofZ}
 use Rattle.meaning.specs.Number.{ofBool, truth}
 use Rattle.meaning.proofs.Machine.{ok}

@@ -1,10 +1,9 @@
 -- By −1 every remainder is 0, MIN's too; by any other divisor but 0 the machine's remainder is the definition's.
 -- Assumes nothing.
-use mathlib.Core.Path.{_≡_, _∙_, ap, sym}
+use mathlib.Core.Path.{_≡_, _∙_, ap}
 use mathlib.Core.Bool.{true, false}
 use mathlib.Core.Option.{some}
-use lib.IntN.{ℤ, pos, negsuc}
-use lib.Signed.{remZ}
+use lib.IntN.{pos, negsuc}
 use mir.Syntax.{w64}
 use mir.Val.{SFits}
 use Rattle.meaning.specs.Number.{eqZ, remainder}

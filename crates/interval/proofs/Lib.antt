@@ -1,0 +1,2 @@
+pub mod SignRules
+pub mod SumRules

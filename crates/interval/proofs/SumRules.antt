@@ -1,0 +1,44 @@
+-- The exact ends of a sum or a difference of two intervals are as far apart as the intervals are long together. Assumes nothing.
+use mathlib.Core.Path.{_≡_, sym, _∙_}
+use mathlib.Core.Bool.{Bool, true, false, cond}
+use mathlib.Core.List.{List}
+use Prim.Native.Nat.{ℕ, _+_, _-_, _^_}
+use borrow.Author.Tests.{leb-true, leb-false}
+use lib.Dec.{leb}
+use lib.IntN.{ℤ, pos, _+ℤ_, _-ℤ_}
+use lib.Signed.{leZ}
+use mir.Syntax.{w64}
+use mir.Val.{SFits}
+use mir.Facts.{toZ-ofZ}
+use Rattle.meaning.specs.Number.{wrap}
+use Rattle.meaning.specs.Interval.{Interval, whole, one, two, pieces, unscaled, far, split}
+use Rattle.meaning.proofs.Integers.{zarith, by-test, add-parts, sub-parts}
+use Rattle.meaning.proofs.Machine.{rd}
+
+-- the wrapped ends by whether they are far apart
+pub split-is : (p q : ℤ) {u v : ℤ} {all : Bool} → all ≡ far p q → u ≡ wrap p → v ≡ wrap q → pieces unscaled (cond all whole (cond (leZ u v) (one u v) (two u v))) ≡ pieces unscaled (split p q)
+unfolding split
+split-is p q a b c i = pieces unscaled (cond (a i) whole (cond (leZ (b i) (c i)) (one (b i) (c i)) (two (b i) (c i))))
+
+-- what a call of `distance` gives
+pub distance-gives : {s e : ℤ} {n : ℕ} → SFits w64 s → SFits w64 e → pos n ≡ rd e -ℤ rd s → pos n ≡ e -ℤ s
+distance-gives f g h = h ∙ (λ i. toZ-ofZ g i -ℤ toZ-ofZ f i)
+
+module _ (s e t f : ℤ) {a b : ℕ} (h : pos a ≡ e -ℤ s) (k : pos b ≡ f -ℤ t) where
+  pub sum-far : leb (2 ^ 64 - 1) (a + b) ≡ far (s +ℤ t) (e +ℤ f)
+  sum-far =
+      let d = sub-parts (e +ℤ f) (s +ℤ t) in
+      by-test (leb (2 ^ 64 - 1) (a + b))
+      (λ y. let m = leb-true (2 ^ 64 - 1) (a + b) y in
+      let u : far (s +ℤ t) (e +ℤ f) ≡ true = omega (zarith, sub-parts e s, sub-parts f t, add-parts s t, add-parts e f) in y ∙ sym u)
+      (λ n. let m = leb-false (2 ^ 64 - 1) (a + b) n in
+      let u : far (s +ℤ t) (e +ℤ f) ≡ false = omega (zarith, sub-parts e s, sub-parts f t, add-parts s t, add-parts e f) in n ∙ sym u)
+
+  pub difference-far : leb (2 ^ 64 - 1) (a + b) ≡ far (s -ℤ f) (e -ℤ t)
+  difference-far =
+      let d = sub-parts (e -ℤ t) (s -ℤ f) in
+      by-test (leb (2 ^ 64 - 1) (a + b))
+      (λ y. let m = leb-true (2 ^ 64 - 1) (a + b) y in
+      let u : far (s -ℤ f) (e -ℤ t) ≡ true = omega (zarith, sub-parts e s, sub-parts f t, sub-parts s f, sub-parts e t) in y ∙ sym u)
+      (λ n. let m = leb-false (2 ^ 64 - 1) (a + b) n in
+      let u : far (s -ℤ f) (e -ℤ t) ≡ false = omega (zarith, sub-parts e s, sub-parts f t, sub-parts s f, sub-parts e t) in n ∙ sym u)

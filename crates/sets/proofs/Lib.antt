@@ -1,0 +1,5 @@
+pub mod Bridge
+pub mod Cross
+pub mod Joining
+pub mod Merged
+pub mod Reading

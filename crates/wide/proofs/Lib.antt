@@ -1,0 +1,4 @@
+pub mod Words
+pub mod Middle
+pub mod Order
+pub mod Spreads

@@ -1,0 +1,81 @@
+// The exact product of two i64, with 2^127 + 2^63 added.
+use crate::product::Wide;
+use crate::product::full;
+use crate::word::word;
+ghost use mathlib.Core.Path.{_≡_};
+ghost use Prim.Native.Nat.{_+_, _-_, _/_, _%_, _^_, _≤_};
+ghost use lib.IntN.{_*ℤ_};
+ghost use Rattle.wide.specs.Exact.{held};
+
+// How far w is from 2^63: the magnitude of the number whose word is w.
+pub fn size(w: u64) -> u64
+    ensures { λ r. ⌜ r ≡ w - 2 ^ 63 + (2 ^ 63 - w) ⌝ }
+{
+    if w < 9223372036854775808 {
+        9223372036854775808 - w
+    } else {
+        w - 9223372036854775808
+    }
+}
+
+// m above the middle, 2^127 + 2^63.
+pub fn above(m: Wide) -> Wide
+    requires { ⌜ m .hi ≤ 2 ^ 62 ⌝ }
+    ensures { λ r. ⌜ (r .hi ≡ m .hi + 2 ^ 63 + (m .lo + 2 ^ 63) / 2 ^ 64) × (r .lo ≡ (m .lo + 2 ^ 63) % 2 ^ 64) ⌝ }
+{
+    let hi = m.hi;
+    let lo = m.lo;
+    if lo < 9223372036854775808 {
+        Wide {
+            hi: hi + 9223372036854775808,
+            lo: lo + 9223372036854775808,
+        }
+    } else {
+        Wide {
+            hi: hi + 9223372036854775809,
+            lo: lo - 9223372036854775808,
+        }
+    }
+}
+
+// m below the middle.
+pub fn below(m: Wide) -> Wide
+    requires { ⌜ m .hi ≤ 2 ^ 62 ⌝ }
+    ensures { λ r. ⌜ (r .hi + m .hi + (r .lo + m .lo) / 2 ^ 64 ≡ 2 ^ 63) × ((r .lo + m .lo) % 2 ^ 64 ≡ 2 ^ 63) ⌝ }
+{
+    let hi = m.hi;
+    let lo = m.lo;
+    if lo <= 9223372036854775808 {
+        Wide {
+            hi: 9223372036854775808 - hi,
+            lo: 9223372036854775808 - lo,
+        }
+    } else {
+        Wide {
+            hi: 9223372036854775807 - hi,
+            lo: 18446744073709551615 - lo + 9223372036854775809,
+        }
+    }
+}
+
+// x times y, exact.
+pub fn exact(x: i64, y: i64) -> Wide
+    ensures { λ r. ⌜ held (r .hi) (r .lo) ≡ x *ℤ y ⌝ }
+{
+    let a = word(x);
+    let b = word(y);
+    let m = full(size(a), size(b));
+    if a < 9223372036854775808 {
+        if b < 9223372036854775808 {
+            above(m)
+        } else {
+            below(m)
+        }
+    } else {
+        if b < 9223372036854775808 {
+            below(m)
+        } else {
+            above(m)
+        }
+    }
+}
