@@ -1,2 +1,3 @@
 pub mod SignRules
 pub mod SumRules
+pub mod SmallProducts

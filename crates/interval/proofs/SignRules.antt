@@ -1,7 +1,7 @@
 -- What neg and abs of one interval are in each case. Assumes nothing.
 use mathlib.Core.Path.{_≡_}
 use mathlib.Core.Bool.{true, false}
-use mathlib.Core.List.{List, [], _∷_, _++_}
+use mathlib.Core.List.{_++_}
 use lib.IntN.{ℤ, pos, negℤ}
 use lib.Signed.{leZ, _≤ℤ_, _<ℤ_}
 use Rattle.meaning.specs.Number.{MIN, MAX, within, eqZ, larger}

@@ -1,7 +1,6 @@
 -- The exact ends of a sum or a difference of two intervals are as far apart as the intervals are long together. Assumes nothing.
 use mathlib.Core.Path.{_≡_, sym, _∙_}
 use mathlib.Core.Bool.{Bool, true, false, cond}
-use mathlib.Core.List.{List}
 use Prim.Native.Nat.{ℕ, _+_, _-_, _^_}
 use borrow.Author.Tests.{leb-true, leb-false}
 use lib.Dec.{leb}
@@ -11,7 +10,7 @@ use mir.Syntax.{w64}
 use mir.Val.{SFits}
 use mir.Facts.{toZ-ofZ}
 use Rattle.meaning.specs.Number.{wrap}
-use Rattle.meaning.specs.Interval.{Interval, whole, one, two, pieces, unscaled, far, split}
+use Rattle.meaning.specs.Interval.{whole, one, two, pieces, unscaled, far, split}
 use Rattle.meaning.proofs.Integers.{zarith, by-test, add-parts, sub-parts}
 use Rattle.meaning.proofs.Machine.{rd}
 

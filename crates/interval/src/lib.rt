@@ -1,5 +1,5 @@
 // An interval is a start and an end, start at most end, both from MIN to MAX. The rule of each operation takes one interval or a pair of them and writes the
-// ends of its one or more intervals from the front of a lent slice, before any joining. Special are MIN, which negation and division by -1 keep, ends that
+// ends of its intervals from the front of a lent slice, before any joining. Special are MIN, which negation and division by -1 keep, ends that
 // wrap, where the result is split at the end of the range, and 0 in a divisor, which is cut out.
 pub mod mul;
 pub mod sign;

@@ -39,7 +39,7 @@ register-below s {r} {n} e = go (eqb (digits s) 0) (needless s (digits s)) (ltb 
 
 -- ---- a map
 
-map-cond : {A B : Type 0} (f : A → B) (t : Bool) (g h : Got A) (g′ h′ : Got B) → mapGot f g ≡ g′ → mapGot f h ≡ h′ → mapGot f (cond t g h) ≡ cond t g′ h′
+pub map-cond : {A B : Type 0} (f : A → B) (t : Bool) (g h : Got A) (g′ h′ : Got B) → mapGot f g ≡ g′ → mapGot f h ≡ h′ → mapGot f (cond t g h) ≡ cond t g′ h′
 map-cond f true g h g′ h′ e e′ = e
 map-cond f false g h g′ h′ e e′ = e′
 
@@ -48,7 +48,7 @@ map-then : {A B C D : Type 0} (f : A → B) (f′ : C → D) (g : Got A) (k : A 
 map-then f f′ (got a n) k k′ h = h a n
 map-then f f′ bad k k′ h = refl
 
-map-any : {A C D : Type 0} (f : C → D) (g : Got A) (k : A → ℕ → Got C) (k′ : A → ℕ → Got D) → ((a : A) (n : ℕ) → mapGot f (k a n) ≡ k′ a n) → mapGot f (andThen g k) ≡ andThen g k′
+pub map-any : {A C D : Type 0} (f : C → D) (g : Got A) (k : A → ℕ → Got C) (k′ : A → ℕ → Got D) → ((a : A) (n : ℕ) → mapGot f (k a n) ≡ k′ a n) → mapGot f (andThen g k) ≡ andThen g k′
 map-any f (got a n) k k′ h = h a n
 map-any f bad k k′ h = refl
 

@@ -1,6 +1,6 @@
 -- The point operations by the cases that the code takes. Assumes nothing.
 use mathlib.Core.Path.{_≡_, refl, sym, ap, _∙_}
-use lib.IntN.{ℤ, pos, negsuc, negℤ, sucℤ, predℤ, _+ℤ_, _-ℤ_}
+use lib.IntN.{ℤ, pos, negsuc, negℤ, sucℤ, predℤ, _+ℤ_, _-ℤ_, _*ℤ_}
 use Prim.Native.Nat.{_^_, _<_}
 use lib.Signed.{_≤ℤ_, _<ℤ_, mag, quotZ, remZ}
 use mir.Syntax.{w64}
@@ -42,7 +42,7 @@ add-one-is x = omega (zarith, add-parts x (pos 1), suc-parts x)
 pub sub-one-is : (x : ℤ) → x -ℤ pos 1 ≡ predℤ x
 sub-one-is x = omega (zarith, sub-parts x (pos 1), pred-parts x)
 
--- what a call of neg, add or sub gives, as the machine hands it on
+-- what a call gives, as the machine hands it on
 module _ {x r : ℤ} (f : SFits w64 x) (h : mag r < 2 ^ 63) where
   pub neg-gives : MIN <ℤ x → r ≡ negative (rd x) → rd r ≡ negℤ x
   unfolding negative
@@ -56,3 +56,6 @@ module _ {x y r : ℤ} (f : SFits w64 x) (g : SFits w64 y) (h : mag r < 2 ^ 63) 
   pub sub-gives : r ≡ difference (rd x) (rd y) → rd r ≡ wrap (x -ℤ y)
   unfolding difference
   sub-gives e = toZ-ofZ (ok h) ∙ e ∙ (λ i. wrap (toZ-ofZ f i -ℤ toZ-ofZ g i))
+
+  pub mul-gives : r ≡ wrap (rd x *ℤ rd y) → rd r ≡ wrap (x *ℤ y)
+  mul-gives e = toZ-ofZ (ok h) ∙ e ∙ (λ i. wrap (toZ-ofZ f i *ℤ toZ-ofZ g i))

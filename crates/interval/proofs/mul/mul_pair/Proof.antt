@@ -1,54 +1,76 @@
--- The corners are the exact ends of the definition, the least at most the greatest, and their spread is written with its own ends divided.
+-- Both ways meet the definition; the narrow one is taken only where both intervals are.
 -- Assumes nothing.
 use borrow.Author.Needs.{needs}
-use mathlib.Core.Path.{_≡_, sym, ap, ap₂, _∙_, subst₂}
-use lib.IntN.{ℤ, _*ℤ_}
-use lib.Signed.{_≤ℤ_}
+use mathlib.Core.Path.{sym, _∙_}
 use mir.Facts.{toZ-ofZ}
-use Rattle.meaning.specs.Number.{thousandth}
-use Rattle.meaning.specs.Interval.{Spread, leastCorner, greatestCorner, spread, pieces, mulPair}
-use Rattle.meaning.proofs.Products.{corners-ordered}
+use Rattle.meaning.specs.Interval.{mulPair}
+use Rattle.meaning.proofs.Integers.{zarith}
+use Rattle.meaning.proofs.Machine.{num}
 use Rattle.slices.proofs.Lent.{wrote-as}
-use Rattle.wide.specs.Exact.{held}
+use Rattle.interval.proofs.SmallProducts.{is-narrow}
 use Rattle.interval.proofs.mul.mul_pair.Statement.{statement}
 use Rattle.interval.proofs.mul.mul_pair.Tie as tie
 
--- after the call of `corners`
-module _ (c : tie.After-corners) where
-  least-is : held (c .corners .result .least .hi) (c .corners .result .least .lo)
-      ≡ leastCorner _*ℤ_ (c .before .args .s) (c .before .args .e) (c .before .args .t) (c .before .args .f)
-  least-is =
-      let w = c .before .fits in
-      c .corners .ensures .0 ∙ (λ i. leastCorner _*ℤ_ (toZ-ofZ (w .s) i) (toZ-ofZ (w .e) i) (toZ-ofZ (w .t) i) (toZ-ofZ (w .f) i))
+narrow-requires : tie.Need-narrow-requires
+narrow-requires c κs = search needs
 
-  greatest-is : held (c .corners .result .greatest .hi) (c .corners .result .greatest .lo)
-      ≡ greatestCorner _*ℤ_ (c .before .args .s) (c .before .args .e) (c .before .args .t) (c .before .args .f)
-  greatest-is =
-      let w = c .before .fits in
-      c .corners .ensures .1 ∙ (λ i. greatestCorner _*ℤ_ (toZ-ofZ (w .s) i) (toZ-ofZ (w .e) i) (toZ-ofZ (w .t) i) (toZ-ofZ (w .f) i))
+narrow-requires-2 : tie.Need-narrow-requires-2
+narrow-requires-2 c κs = search needs
 
-corners-requires : tie.Need-corners-requires
-corners-requires c κs = search needs
+mul-narrow-requires : tie.Need-mul-narrow-requires
+mul-narrow-requires c κs =
+    let j = c .before in
+    let n = j .before in
+    let i = n .before in
+    let m = i .before in
+    let s = m .before in
+    let w = s .fits in (
+      is-narrow (sym (m .narrow .ensures) ∙ i .if1 .taken) (omega (zarith, num (w .s), num (w .e), s .pre .0 .ordered)),
+      (is-narrow (sym (n .narrow2 .ensures) ∙ j .if2 .taken) (omega (zarith, num (w .t), num (w .f), s .pre .1 .0 .ordered)), search needs),
+    )
 
-spread-of-requires : tie.Need-spread-of-requires
-spread-of-requires c κs =
-    let k = c .before .before .before in
-    let x = k .before .args in
-    subst₂ (λ (p q : ℤ). p ≤ℤ q) (sym (least-is k)) (sym (greatest-is k)) (corners-ordered _*ℤ_ (x .s) (x .e) (x .t) (x .f))
+mul-wide-requires : tie.Need-mul-wide-requires
+mul-wide-requires c κs = search needs
 
-put-thousandths-requires : tie.Need-put-thousandths-requires
-put-thousandths-requires c κs = search needs
+mul-wide-requires-2 : tie.Need-mul-wide-requires-2
+mul-wide-requires-2 c κs = search needs
 
 same-length : tie.Need-same-length
 same-length c = search needs
 
 returns : tie.Need-returns
-unfolding mulPair
 returns c =
-    let k = c .before .before .before .before .before .before in
-    wrote-as (ap (λ (r : Spread). pieces thousandth r) (c .before .before .spread-of .ensures ∙ ap₂ spread (least-is k) (greatest-is k))) (c .before .put-thousandths .ensures)
+    let w = c .before .before .before .before .before .before .before .fits in
+    wrote-as (λ j. mulPair (toZ-ofZ (w .s) j) (toZ-ofZ (w .e) j) (toZ-ofZ (w .t) j) (toZ-ofZ (w .f) j)) (c .before .mul-narrow .ensures)
+
+same-length-2 : tie.Need-same-length-2
+same-length-2 c = search needs
+
+returns-2 : tie.Need-returns-2
+returns-2 c =
+    let w = c .before .before .before .before .before .before .before .fits in
+    wrote-as (λ j. mulPair (toZ-ofZ (w .s) j) (toZ-ofZ (w .e) j) (toZ-ofZ (w .t) j) (toZ-ofZ (w .f) j)) (c .before .mul-wide .ensures)
+
+same-length-3 : tie.Need-same-length-3
+same-length-3 c = search needs
+
+returns-3 : tie.Need-returns-3
+returns-3 c =
+    let w = c .before .before .before .before .before .fits in
+    wrote-as (λ j. mulPair (toZ-ofZ (w .s) j) (toZ-ofZ (w .e) j) (toZ-ofZ (w .t) j) (toZ-ofZ (w .f) j)) (c .before .mul-wide2 .ensures)
 
 pub mul-pair-spec : {M : Type 1} → statement M
 mul-pair-spec =
     tie.close
-    (tie.spec corners-requires spread-of-requires put-thousandths-requires same-length returns)
+    (tie.spec
+    narrow-requires
+    narrow-requires-2
+    mul-narrow-requires
+    mul-wide-requires
+    mul-wide-requires-2
+    same-length
+    returns
+    same-length-2
+    returns-2
+    same-length-3
+    returns-3)

@@ -1,7 +1,7 @@
 -- The branches are the cases of the definition: MIN is in [s,e] just when it is its start.
 -- Assumes nothing.
 use borrow.Author.Needs.{needs}
-use mathlib.Core.Path.{_≡_, _∙_, ap}
+use mathlib.Core.Path.{_∙_, ap}
 use mathlib.Core.List.{List, _++_}
 use lib.IntN.{negℤ}
 use lib.Signed.{_<ℤ_}

@@ -1,14 +1,14 @@
 -- The branches are the cases of the definition, and no number that is negated is MIN.
 -- Assumes nothing.
 use borrow.Author.Needs.{needs}
-use mathlib.Core.Path.{_≡_, _∙_, ap}
-use lib.IntN.{ℤ, pos, negℤ}
+use mathlib.Core.Path.{_∙_, ap}
+use lib.IntN.{ℤ, pos}
 use lib.Signed.{_<ℤ_}
 use mir.Facts.{toZ-ofZ}
 use Rattle.meaning.specs.Number.{MIN, larger}
 use Rattle.meaning.specs.Interval.{span}
 use Rattle.meaning.proofs.Integers.{zarith}
-use Rattle.meaning.proofs.Machine.{rd, num, ok}
+use Rattle.meaning.proofs.Machine.{num, ok}
 use Rattle.number.proofs.Points.{neg-gives}
 use Rattle.interval.proofs.SignRules.{rest-positive, rest-negative, rest-both}
 use Rattle.interval.proofs.sign.magnitudes.Statement.{statement}

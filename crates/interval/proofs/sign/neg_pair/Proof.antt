@@ -1,11 +1,9 @@
 -- The branches are the cases of the definition, and each number that is negated is above MIN.
 -- Assumes nothing.
 use borrow.Author.Needs.{needs}
-use mathlib.Core.Path.{_≡_, _∙_}
+use mathlib.Core.Path.{_∙_}
 use mathlib.Core.List.{_++_}
-use lib.IntN.{negℤ}
 use lib.Signed.{_<ℤ_}
-use mir.Facts.{toZ-ofZ}
 use Rattle.meaning.specs.Number.{MIN, MAX}
 use Rattle.meaning.specs.Interval.{span, only}
 use Rattle.meaning.proofs.Integers.{zarith}

@@ -1,0 +1,5 @@
+pub mod Forms
+pub mod Lines
+pub mod Literals
+pub mod Within
+pub mod Words
