@@ -1,9 +1,9 @@
 -- What is asked of a set as a whole, read from its slice of ends. Assumes nothing.
 use mathlib.Core.Path.{_≡_, refl, sym, ap, _∙_}
-use mathlib.Core.Bool.{Bool, true, false, cond, _&&_}
+use mathlib.Core.Bool.{true, false, cond, _&&_}
 use mathlib.Core.List.{List, [], _∷_, _++_}
 use mathlib.Core.Option.{Option, none, some}
-use Prim.Native.Nat.{ℕ, suc, _-_, _/_, _%_, _≤_, _<_}
+use Prim.Native.Nat.{suc, _-_, _/_, _%_, _<_}
 use native.Mathlib.Omega.{arith}
 use borrow.Author.Tests.{lt-ltb}
 use lib.Dec.{ltb, eqb}
@@ -16,7 +16,7 @@ use Rattle.meaning.specs.Number.{ONE, eqZ}
 use Rattle.meaning.specs.Bools.{BoolInterval}
 use Rattle.meaning.specs.Interval.{Interval, only}
 use Rattle.meaning.specs.NumberIntervals.{Set, filled, zeroOnly, constant, sameNumber, intervals, ofBools}
-use Rattle.meaning.proofs.Integers.{by-test, zarith, eqZ-is, eqZ-not, clash}
+use Rattle.meaning.proofs.Integers.{by-test, zarith, eqZ-is}
 use Rattle.meaning.proofs.Machine.{same}
 
 pub filled-long : (l : List ℤ) → ltb 1 (length l) ≡ filled (intervals l)

@@ -4,14 +4,14 @@ use Prim.Native.Nat.{ℕ, _-_, _<_}
 use native.Mathlib.Omega.{arith}
 use lib.ListN.{length, getD}
 use mathlib.Core.Bool.{Bool, true, false, not, cond, _||_}
-use mathlib.Core.Logic.{_⊎_, inl, inr, ⊎-elim}
+use mathlib.Core.Logic.{⊎-elim}
 use mathlib.Core.List.{List, [], _∷_, _++_}
-use lib.IntN.{ℤ, pos, sucℤ}
-use lib.Signed.{_≤ℤ_, _<ℤ_, leZ, ltZ, ≤ℤ-refl}
+use lib.IntN.{ℤ, pos}
+use lib.Signed.{_≤ℤ_, leZ, ltZ, ≤ℤ-refl}
 use Rattle.meaning.specs.Number.{smaller, larger}
 use Rattle.meaning.specs.Interval.{Interval, span, each}
 use Rattle.meaning.specs.NumberIntervals.{Set, apart, Normal, someOf, somePair, filled, share, meetPair, eachPair, insert, rebuild, intersect, intervals, flat, constant, sameNumber, neBools}
-use Rattle.meaning.proofs.Integers.{zarith, never, same-test, or-left, or-right, or-cases, ≤ℤ-trans, suc-parts, cond-case}
+use Rattle.meaning.proofs.Integers.{zarith, never, same-test, or-left, or-right, or-cases, suc-parts, cond-case}
 use Rattle.meaning.proofs.Members.{Each}
 use Rattle.meaning.proofs.Flat.{normal-even}
 use Rattle.sets.specs.Sets.{SetEnds}

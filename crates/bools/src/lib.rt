@@ -2,12 +2,11 @@
 ghost use mathlib.Core.Path.{_≡_};
 ghost use mathlib.Core.Bool.{_&&_, _||_};
 ghost use Prim.Native.Nat.{_<_, _≤_};
-ghost use lib.ListN.{length, getD};
-ghost use lib.IntN.{pos};
+ghost use lib.ListN.{length};
 ghost use lib.Signed.{ltZ};
 ghost use Rattle.meaning.specs.Number.{eqZ};
 ghost use Rattle.meaning.specs.Bools.{notBools, andBools, orBools};
-ghost use Rattle.meaning.specs.NumberIntervals.{asBools, ofBools, intervals, filled, zeroOnly, leBools, ltBools, neBools, share, constant, sameNumber};
+ghost use Rattle.meaning.specs.NumberIntervals.{asBools, ofBools, intervals, filled, zeroOnly, leBools, ltBools, neBools, constant, sameNumber};
 ghost use Rattle.slices.specs.Wrote.{Wrote};
 ghost use Rattle.sets.specs.Sets.{SetEnds};
 ghost use Rattle.bools.specs.Reading.{boolsOf};

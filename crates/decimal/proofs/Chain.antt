@@ -4,8 +4,8 @@ use mathlib.Core.List.{List, [], _++_}
 use borrow.Rule.Slice.PartMut.{midOf, putMid}
 use Prim.Native.Nat.{ℕ, _+_, _-_, _≤_}
 use native.Mathlib.Omega.{arith}
-use lib.ListN.{length, length-append, length-drop}
-use Rattle.meaning.proofs.Over.{over-nil, length-over, tail-next, mid-tail}
+use lib.ListN.{length, take, length-append, length-drop}
+use Rattle.meaning.proofs.Over.{over-nil, take-over, length-over, tail-next, mid-tail}
 use Rattle.decimal.specs.Written.{Written}
 
 pub written-as : {x y new old : List ℕ} {r : ℕ} → x ≡ y → Written r x new old → Written r y new old
@@ -13,6 +13,10 @@ written-as {new = new} {old = old} {r = r} e w = subst (λ (l : List ℕ). Writt
 
 pub written-none : (old : List ℕ) → Written 0 [] old old
 written-none old = record { count = refl; left = sym (over-nil old); room = omega arith }
+
+-- what stands at the front
+pub written-front : {x new old : List ℕ} {r : ℕ} → Written r x new old → take r new ≡ x
+written-front {x} {old = old} w = (λ i. take (w .count i) (w .left i)) ∙ take-over x old
 
 -- room for a text said another way
 pub room-as : {x y : List ℕ} (n : ℕ) → x ≡ y → length y ≤ n → length x ≤ n

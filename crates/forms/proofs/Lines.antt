@@ -98,7 +98,7 @@ kept-fits z =
     (λ e. rw e (range-fits (from-within MIN z MAX e)))
     (λ e. rw e (record { sfits = omega arith }))
 
-kept-read : (z : ℤ) {v : ℤ} → kept z ≡ v → rd v ≡ kept z
+pub kept-read : (z : ℤ) {v : ℤ} → kept z ≡ v → rd v ≡ kept z
 kept-read z e = ap rd (sym e) ∙ toZ-ofZ (kept-fits z)
 
 -- which case of `bounds` holds

@@ -1,3 +1,7 @@
+pub mod Cuts
+pub mod DivRules
+pub mod MagnitudeRules
+pub mod RemRules
 pub mod SignRules
-pub mod SumRules
 pub mod SmallProducts
+pub mod SumRules

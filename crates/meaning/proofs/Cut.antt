@@ -218,6 +218,16 @@ read-lines-length n s (b ∷ bs) {ls} e =
     let h = then-sheet n (readOne s b) (λ s′. readLines (suc n) s′ bs) e in
     rw (h .4) (ap suc (read-lines-length (suc n) (h .0 .seen) bs (h .3)))
 
+read-lines-at : (n m : ℕ) (s : Seen) (bs : List (List ℕ)) (d : Line) {ls : List Line} → readLines m s bs ≡ sheet ls → n < length bs → readLine (getD bs n []) ≡ ok (getD ls n d)
+unfolding readLines
+read-lines-at n m s [] d e h = absurd (let x : ⊥ = omega arith in x)
+read-lines-at zero m s (b ∷ bs) d e h =
+    let k = then-sheet m (readOne s b) (λ s′. readLines (suc m) s′ bs) e in
+    one-read s b (k .0) (k .2) .0 ∙ ap (λ (x : List Line). ok (getD x 0 d)) (sym (k .4))
+read-lines-at (suc n) m s (b ∷ bs) d e h =
+    let k = then-sheet m (readOne s b) (λ s′. readLines (suc m) s′ bs) e in
+    read-lines-at n (suc m) (k .0 .seen) bs d (k .3) (le-of-suc-le-suc h) ∙ ap (λ (x : List Line). ok (getD x (suc n) d)) (sym (k .4))
+
 -- a text that reads as a sheet is in shape, and its lines are read one after the other
 pub record Reads (t : List ℕ) (ls : List Line) : Type 0 where
   pub shape : Shape t
@@ -244,3 +254,8 @@ read-length t e = read-lines-length 1 nothingSeen (lines t) (reads t e .by-lines
 
 pub read-whole : (t : List ℕ) {ls : List Line} → read t ≡ sheet ls → cut t (length ls) ≡ t
 read-whole t e = ap (cut t) (read-length t e) ∙ cut-all t (reads t e .shape .ended)
+
+-- the line finder's line n + 1 reads as the line n + 1 of the sheet
+pub read-line-at : (t : List ℕ) (n : ℕ) (d : Line) {ls : List Line} → read t ≡ sheet ls → n < length ls → readLine (lineAt t (suc n)) ≡ ok (getD ls n d)
+unfolding lineAt
+read-line-at t n d e h = read-lines-at n 1 nothingSeen (lines t) d (reads t e .by-lines) (omega (arith, read-length t e))

@@ -77,14 +77,14 @@ fulfilled-done {n} limit t e = go (read t) refl e
 
 -- tests of the lengths
 module _ (t : List ℕ) (sets work : List ℤ) (h : Enough sets work) where
-  check-call : checkCall t sets work ≡ checkText shipLimit t
+  pub check-call : checkCall t sets work ≡ checkText shipLimit t
   unfolding checkCall
   check-call = rw (le-ltb (length sets) setsNeed (h .sets-long), le-ltb (length work) workNeed (h .work-long))
 
   check-verdict : {n : ℕ} {B : Bands} → checkText shipLimit t ≡ worked n (done B) → verdict (checkCall t sets work) ≡ fulfilled n
   check-verdict e = ap verdict (check-call ∙ e)
 
-  check-left : {n : ℕ} {B : Bands} → checkText shipLimit t ≡ worked n (done B) → checkSets t sets work ≡ over (layout (B .sets)) sets
+  pub check-left : {n : ℕ} {B : Bands} → checkText shipLimit t ≡ worked n (done B) → checkSets t sets work ≡ over (layout (B .sets)) sets
   unfolding checkSets
   check-left e = ap (setsLeftBy sets) (check-call ∙ e)
 

@@ -30,5 +30,6 @@ pub mod Slots
 pub mod Splits
 pub mod Spread
 pub mod Sums
+pub mod Troubles
 pub mod Work
 pub mod Wrapping

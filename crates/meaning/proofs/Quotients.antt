@@ -142,32 +142,33 @@ module _ {s e t f x y : ℤ} (p : Plain s e t f) (h : Between s x e) (k : Betwee
   plain-holds : wrap (quotZ x y) ∈ divPlain s e t f
   plain-holds = subst (λ (z : ℤ). z ∈ divPlain s e t f) (sym (wrap-id (quotZ x y) plain-fits)) (here (between plain-low plain-high))
 
-plain-proper : {s e t f : ℤ} → Plain s e t f → AllProper (divPlain s e t f)
-plain-proper {s} {e} {t} {f} p = (record { low = least-above quotZ s e t f (st .above) (sf .above) (et .above) (ef .above); ordered = corners-ordered quotZ s e t f; high = greatest-below quotZ s e t f (st .below) (sf .below) (et .below) (ef .below) }, tt)
-  where
-    low : Between s s e
-    low = between (≤ℤ-refl s) (p .left .ordered)
+-- the ends are members
+module _ {s e t f : ℤ} (p : Plain s e t f) where
+  pub start-left : Between s s e
+  start-left = between (≤ℤ-refl s) (p .left .ordered)
 
-    high : Between s e e
-    high = between (p .left .ordered) (≤ℤ-refl e)
+  pub end-left : Between s e e
+  end-left = between (p .left .ordered) (≤ℤ-refl e)
 
-    first : Between t t f
-    first = between (≤ℤ-refl t) (p .right)
+  pub start-right : Between t t f
+  start-right = between (≤ℤ-refl t) (p .right)
 
-    last : Between t f f
-    last = between (p .right) (≤ℤ-refl f)
+  pub end-right : Between t f f
+  end-right = between (p .right) (≤ℤ-refl f)
 
-    st : InRange (quotZ s t)
-    st = fits-range (plain-fits p low first)
-
-    sf : InRange (quotZ s f)
-    sf = fits-range (plain-fits p low last)
-
-    et : InRange (quotZ e t)
-    et = fits-range (plain-fits p high first)
-
-    ef : InRange (quotZ e f)
-    ef = fits-range (plain-fits p high last)
+  plain-proper : AllProper (divPlain s e t f)
+  plain-proper =
+      let st = fits-range (plain-fits p start-left start-right) in
+      let sf = fits-range (plain-fits p start-left end-right) in
+      let et = fits-range (plain-fits p end-left start-right) in
+      let ef = fits-range (plain-fits p end-left end-right) in (
+        record {
+          low = least-above quotZ s e t f (st .above) (sf .above) (et .above) (ef .above);
+          ordered = corners-ordered quotZ s e t f;
+          high = greatest-below quotZ s e t f (st .below) (sf .below) (et .below) (ef .below);
+        },
+        tt,
+      )
 
 -- ---- a spread piece D = [a,b]
 
@@ -277,7 +278,7 @@ module _ {t f : ℤ} (r : t ≤ℤ f) (g : OneSign t f) where
 
 -- ---- the pair
 
-thousands-proper : {s e : ℤ} → s ≤ℤ e → AllProper (pieces unscaled (spread (ONE *ℤ s) (ONE *ℤ e)))
+pub thousands-proper : {s e : ℤ} → s ≤ℤ e → AllProper (pieces unscaled (spread (ONE *ℤ s) (ONE *ℤ e)))
 thousands-proper h = spread-proper unscaled-scale (scale-le 1000 h)
 
 -- every quotient of members, wrapped, is in one of the intervals

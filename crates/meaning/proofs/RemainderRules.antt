@@ -188,7 +188,7 @@ signed-one false l h = refl
 -- ---- rule (f) by its cases
 
 module _ (negated : Bool) (a b c d : ℕ) where
-  magnitudes-case {ℓ} : (P : List Interval → Type ℓ) → P (signedSpan negated 0 (d - 1))
+  pub magnitudes-case {ℓ} : (P : List Interval → Type ℓ) → P (signedSpan negated 0 (d - 1))
       → (b - a < d → c ≡ d → a ≡ b / c * c → P (signedSpan negated 0 (b % c) ++ []))
       → (b - a < d → c ≡ d → a < b / c * c → P (signedSpan negated 0 (b % c) ++ signedSpan negated (a % c) (c - 1)))
       → (b - a < d → c ≡ d → b / c * c < a → P (signedSpan negated (a % c) (b % c)))

@@ -1,16 +1,15 @@
 -- Lists of ends and sets of intervals say the same, so a list in order with the members of another, joined in one pass, is the other's join. Assumes nothing.
 use mathlib.Core.Path.{_≡_, refl, sym, ap, _∙_}
-use mathlib.Core.Logic.{_⊎_, inl, inr, ⊎-elim}
-use mathlib.Core.List.{List, [], _∷_, _++_}
+use mathlib.Core.Logic.{inl, inr, ⊎-elim}
+use mathlib.Core.List.{List, [], _∷_}
 use mathlib.Core.Bool.{true, _&&_}
-use Prim.Native.Nat.{ℕ, _+_, _%_, _≤_, _<_}
+use Prim.Native.Nat.{ℕ, _%_}
 use native.Mathlib.Omega.{arith}
-use lib.ListN.{length, take, drop}
+use lib.ListN.{length, take}
 use lib.Seq.{length-take-le}
 use lib.IntN.{ℤ}
 use lib.Signed.{leZ}
 use Rattle.meaning.specs.Number.{InRange}
-use Rattle.meaning.specs.Interval.{Interval}
 use Rattle.meaning.specs.NumberIntervals.{Set, _∈_, here, there, Apart, Normal, rebuild, union, flat, intervals, startsAfter, normal}
 use Rattle.meaning.proofs.Integers.{zarith, never, and-both, le-in, le-out, lt-out, suc-parts}
 use Rattle.meaning.proofs.Members.{AllProper, not-in-none, between, normal-proper, member-range}

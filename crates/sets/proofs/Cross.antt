@@ -11,7 +11,7 @@ use lib.IntN.{ℤ}
 use lib.Signed.{leZ}
 use Rattle.meaning.specs.Lists.{over}
 use Rattle.meaning.specs.Number.{larger}
-use Rattle.meaning.specs.NumberIntervals.{normal, flat, intervals, intersect}
+use Rattle.meaning.specs.NumberIntervals.{flat, intervals, intersect}
 use Rattle.meaning.proofs.Integers.{leZ-false, leZ-true}
 use Rattle.sorting.specs.Order.{In, Le, Lt, Valid, putPair, valid}
 use Rattle.sorting.proofs.Ends.{Gap, valid-yes, valid-pair, After, NormalEnds, larger-parts}

@@ -13,7 +13,6 @@ use Rattle.meaning.specs.NumberIntervals.{flat, intervals, union}
 use Rattle.meaning.proofs.Over.{tail-drop, tail-length, tail-take, tail-whole}
 use Rattle.sorting.specs.Order.{Swept, Valid, joinSorted, merge, valid}
 use Rattle.sorting.proofs.Ends.{valid-yes}
-use Rattle.sorting.proofs.Halves.{merged}
 use Rattle.sets.specs.Sets.{SetEnds, United}
 use Rattle.sets.proofs.Bridge.{set-valid, united}
 

@@ -15,7 +15,6 @@ use Rattle.meaning.specs.Outcome.{ok, stop, bind}
 use Rattle.meaning.specs.Sheet.{registers, Line, put, hold, input, act, FineLine}
 use Rattle.meaning.specs.Reading.{readLine}
 use Rattle.meaning.specs.Text.{splitLines, lines, Seen, nothingSeen, among, admit, Read, sheet, noSheet, prepend, readOne, readLines, read, shaped}
-use Rattle.meaning.specs.Run.{Verdict}
 use Rattle.meaning.proofs.Integers.{by-test}
 use Rattle.meaning.proofs.Cut.{shape-of}
 use Rattle.meaning.proofs.Fine.{read-line-fine}
@@ -23,8 +22,10 @@ use Rattle.forms.specs.Answer.{lineFrom}
 use Rattle.forms.specs.declared.LineForm.{LineForm}
 use Rattle.forms.specs.declared.LineForm.the-variants as line
 use Rattle.forms.proofs.Lines.{refused-some, put-reads}
+use Rattle.sheet.specs.declared.Judgement.{Judgement}
+use Rattle.sheet.specs.declared.Judgement.the-variants as judgement
 use Rattle.sheet.specs.Feed.{feed}
-use Rattle.sheet.specs.Answer.{readVerdict, isAct, admission, takenWith, inRegister}
+use Rattle.sheet.specs.Answer.{judgementFor, judgementOf, readVerdict, isAct, admission, takenWith, inRegister}
 use Rattle.sheet.proofs.Feeds.{next-lines, next-rest, end-lt}
 
 -- the array says which registers are among l
@@ -32,10 +33,10 @@ pub record Notes (taken : List Bool) (l : List ℕ) : Type 0 where
   pub size : length taken ≡ registers
   pub each : (q : ℕ) → q < registers → getD taken q false ≡ among q l
 
--- the verdict on what is left, with n lines before it
-abbrev pub verdictAfter : ℕ → Read → Verdict
-verdictAfter n (sheet ls) = record { number = 0; line = 0; count = n + length ls }
-verdictAfter n (noSheet k m) = record { number = k; line = m; count = 0 }
+-- the judgement on what is left, with n lines before it
+abbrev pub judgementAfter : ℕ → Read → Judgement
+judgementAfter n (sheet ls) = judgement.Fine (n + length ls)
+judgementAfter n (noSheet k m) = judgement.Refused k m
 
 -- with n lines passed, `at` bytes: what is left to read is judged as the whole is
 pub record Going (s : List ℕ) (taken : List Bool) (other : Bool) (n at : ℕ) : Type 0 where
@@ -44,7 +45,7 @@ pub record Going (s : List ℕ) (taken : List Bool) (other : Bool) (n at : ℕ) 
   pub ended : splitLines (drop at s) .rest ≡ []
   pub held : List ℕ
   pub notes : Notes taken held
-  pub same : readVerdict (readLines 1 nothingSeen (lines s)) ≡ verdictAfter n (readLines (n + 1) (record { other = other; taken = held }) (lines (drop at s)))
+  pub same : judgementFor (readLines 1 nothingSeen (lines s)) ≡ judgementAfter n (readLines (n + 1) (record { other = other; taken = held }) (lines (drop at s)))
 
 -- ---- one line
 
@@ -70,18 +71,18 @@ module _ (n : ℕ) (other : Bool) (taken : List Bool) (held : List ℕ) (h : Not
   abbrev seen : Seen
   seen = record { other = other; taken = held }
 
-  abbrev Rest : Verdict
-  Rest = verdictAfter n (readLines (n + 1) seen (b ∷ bs))
+  abbrev Rest : Judgement
+  Rest = judgementAfter n (readLines (n + 1) seen (b ∷ bs))
 
-  stops : (k : ℕ) → readOne seen b ≡ stop k → Rest ≡ record { number = k; line = n + 1; count = 0 }
+  stops : (k : ℕ) → readOne seen b ≡ stop k → Rest ≡ judgement.Refused k (n + 1)
   unfolding readLines
   stops k e = rw e
 
-  goes : (x : Line) (s′ : Seen) → readOne seen b ≡ ok (record { line = x; seen = s′ }) → Rest ≡ verdictAfter (n + 1) (readLines (n + 1 + 1) s′ bs)
+  goes : (x : Line) (s′ : Seen) → readOne seen b ≡ ok (record { line = x; seen = s′ }) → Rest ≡ judgementAfter (n + 1) (readLines (n + 1 + 1) s′ bs)
   unfolding readLines
   goes x s′ e = rw (e, add-one (n + 1)) (after-one x (readLines (suc (n + 1)) s′ bs))
     where
-      after-one : (x : Line) (r : Read) → verdictAfter n (prepend x r) ≡ verdictAfter (n + 1) r
+      after-one : (x : Line) (r : Read) → judgementAfter n (prepend x r) ≡ judgementAfter (n + 1) r
       after-one x (sheet ls) = let e : n + suc (length ls) ≡ n + 1 + length ls = omega arith in rw e
       after-one x (noSheet k m) = refl
 
@@ -106,7 +107,7 @@ module _ (n : ℕ) (other : Bool) (taken : List Bool) (held : List ℕ) (h : Not
     one-in t = rw (e, test-is ∙ t)
 
   abbrev Stopped : ℕ → Type 0
-  Stopped k = Rest ≡ record { number = k; line = n + 1; count = 0 }
+  Stopped k = Rest ≡ judgement.Refused k (n + 1)
 
   pub line-stops : (l : LineForm) {k : ℕ} → lineFrom b l ≡ readLine b → inRegister l < registers → k ≡ admission other taken l → (k ≡ 0 → ⊥) → Stopped k
   unfolding admission
@@ -122,7 +123,7 @@ module _ (n : ℕ) (other : Bool) (taken : List Bool) (held : List ℕ) (h : Not
   pub record Onward (l : LineForm) : Type 0 where
     pub held′ : List ℕ
     pub notes′ : Notes (takenWith other taken l) held′
-    pub rest : Rest ≡ verdictAfter (n + 1) (readLines (n + 1 + 1) (record { other = isAct l; taken = held′ }) bs)
+    pub rest : Rest ≡ judgementAfter (n + 1) (readLines (n + 1 + 1) (record { other = isAct l; taken = held′ }) bs)
 
   pub line-goes : (l : LineForm) {k : ℕ} → lineFrom b l ≡ readLine b → inRegister l < registers → k ≡ admission other taken l → k ≡ 0 → Onward l
   unfolding admission takenWith
@@ -151,9 +152,9 @@ no-notes = record { size = length-replicate registers false; each = λ q k. none
     none (suc i) zero = refl
     none (suc i) (suc q) = none i q
 
-verdict-start : (r : Read) → readVerdict r ≡ verdictAfter 0 r
-verdict-start (sheet ls) = rw (zero-add (length ls))
-verdict-start (noSheet k m) = refl
+judgement-start : (r : Read) → judgementFor r ≡ judgementAfter 0 r
+judgement-start (sheet ls) = rw (zero-add (length ls))
+judgement-start (noSheet k m) = refl
 
 pub going-start : (s : List ℕ) → splitLines s .rest ≡ [] → Going s (replicate registers false) false 0 0
 going-start s e = record {
@@ -162,11 +163,11 @@ going-start s e = record {
   ended = e;
   held = [];
   notes = no-notes;
-  same = verdict-start (readLines 1 nothingSeen (lines s));
+  same = judgement-start (readLines 1 nothingSeen (lines s));
 }
 
 pub going-done : (s : List ℕ) (taken : List Bool) (other : Bool) (n at : ℕ) → Going s taken other n at → length s ≤ at
-    → record { number = 0; line = 0; count = n } ≡ readVerdict (readLines 1 nothingSeen (lines s))
+    → judgement.Fine n ≡ judgementFor (readLines 1 nothingSeen (lines s))
 unfolding readLines splitLines
 going-done s taken other n at g h = sym (g .same ∙ rw (drop-of-length-le s h) (rw (add-zero n)))
 
@@ -178,10 +179,10 @@ module _ (s : List ℕ) (taken : List Bool) (other : Bool) (n at : ℕ) (g : Goi
   abbrev these : List ℕ
   these = take (e - at) (drop at s)
 
-  same-line : readVerdict (readLines 1 nothingSeen (lines s)) ≡ verdictAfter n (readLines (n + 1) (record { other = other; taken = g .held }) (these ∷ lines (drop (e + 1) s)))
-  same-line = g .same ∙ ap (λ (x : List (List ℕ)). verdictAfter n (readLines (n + 1) (record { other = other; taken = g .held }) x)) (next-lines s at ee ends-there)
+  same-line : judgementFor (readLines 1 nothingSeen (lines s)) ≡ judgementAfter n (readLines (n + 1) (record { other = other; taken = g .held }) (these ∷ lines (drop (e + 1) s)))
+  same-line = g .same ∙ ap (λ (x : List (List ℕ)). judgementAfter n (readLines (n + 1) (record { other = other; taken = g .held }) x)) (next-lines s at ee ends-there)
 
-  pub going-stop : {k : ℕ} → k ≡ admission other taken l → (k ≡ 0 → ⊥) → record { number = k; line = n + 1; count = 0 } ≡ readVerdict (readLines 1 nothingSeen (lines s))
+  pub going-stop : {k : ℕ} → k ≡ admission other taken l → (k ≡ 0 → ⊥) → judgement.Refused k (n + 1) ≡ judgementFor (readLines 1 nothingSeen (lines s))
   going-stop a z = sym (same-line ∙ line-stops n other taken (g .held) (g .notes) these (lines (drop (e + 1) s)) l el (register-there these l el) a z)
 
   pub going-next : {k : ℕ} {taken′ : List Bool} {other′ : Bool} → k ≡ admission other taken l → k ≡ 0 → taken′ ≡ takenWith other taken l → other′ ≡ isAct l
@@ -205,13 +206,18 @@ module _ (s : List ℕ) {x : Bool} (ex : x ≡ shaped (splitLines s)) where
   pub shaped-ended : x ≡ true → splitLines s .rest ≡ []
   shaped-ended e = shape-of s (sym ex ∙ e) .ended
 
-  pub read-shaped : x ≡ true → readVerdict (readLines 1 nothingSeen (lines s)) ≡ readVerdict (read s)
+  pub read-shaped : x ≡ true → judgementFor (readLines 1 nothingSeen (lines s)) ≡ judgementFor (read s)
   unfolding read
   read-shaped e = rw (sym ex ∙ e)
 
-  pub read-unshaped : x ≡ false → record { number = 5; line = 0; count = 0 } ≡ readVerdict (read s)
+  pub read-unshaped : x ≡ false → judgement.Refused 5 0 ≡ judgementFor (read s)
   unfolding read
   read-unshaped e = rw (sym ex ∙ e)
+
+-- the judgement has the verdict
+pub judged-so : {r : Judgement} (x : Read) → r ≡ judgementFor x → judgementOf r ≡ readVerdict x
+judged-so (sheet ls) e = ap judgementOf e
+judged-so (noSheet k n) e = ap judgementOf e
 
 -- ---- which case of `admission` and `takenWith` holds
 

@@ -20,6 +20,11 @@ abbrev pub judgementOf : Judgement → Verdict
 judgementOf (judgement.Fine n) = record { number = 0; line = 0; count = n }
 judgementOf (judgement.Refused k n) = record { number = k; line = n; count = 0 }
 
+-- the answer that says so
+abbrev pub judgementFor : Read → Judgement
+judgementFor (sheet ls) = judgement.Fine (length ls)
+judgementFor (noSheet k n) = judgement.Refused k n
+
 -- a line of another kind than `in`
 abbrev pub isAct : LineForm → Bool
 isAct (line.In r lo hi) = false

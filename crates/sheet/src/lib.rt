@@ -7,7 +7,7 @@ ghost use lib.ListN.{drop};
 ghost use Rattle.meaning.specs.Sheet.{registers};
 ghost use Rattle.meaning.specs.Text.{lineAt, splitLines, lines, shaped as shapedText, nothingSeen, readLines, read};
 ghost use Rattle.sheet.specs.Feed.{feed, Behind};
-ghost use Rattle.sheet.specs.Answer.{readVerdict, judgementOf, isAct, admission, takenWith, inRegister};
+ghost use Rattle.sheet.specs.Answer.{readVerdict, judgementOf, judgementFor, isAct, admission, takenWith, inRegister};
 use forms::LineForm;
 use forms::first;
 use forms::read_line;
@@ -33,7 +33,7 @@ pub fn line_end(text: &[u8], at: usize) -> usize
 }
 
 // Where what is behind the first k lines starts; the end of the text if there are fewer.
-fn line_start(text: &[u8], k: usize) -> usize
+pub fn line_start(text: &[u8], k: usize) -> usize
     ensures { λ r. ⌜ Behind (now (text .entry)) k r ⌝ }
 {
     let mut at = 0;
@@ -57,9 +57,9 @@ pub fn line(text: &[u8], n: usize) -> &[u8]
         return first(text, 0);
     }
     let at = line_start(text, n - 1);
-    let e = line_end(text, at);
-    if e < text.len() {
-        &text[at..e]
+    let end = line_end(text, at);
+    if end < text.len() {
+        &text[at..end]
     } else {
         first(text, 0)
     }
@@ -125,7 +125,7 @@ fn is_act(l: LineForm) -> bool
 // The lines in order: the first that is refused.
 fn judge_lines(text: &[u8]) -> Judgement
     requires { ⌜ splitLines (now text) .rest ≡ [] ⌝ }
-    ensures { λ r. ⌜ judgementOf r ≡ readVerdict (readLines 1 nothingSeen (lines (now (text .entry)))) ⌝ }
+    ensures { λ r. ⌜ r ≡ judgementFor (readLines 1 nothingSeen (lines (now (text .entry)))) ⌝ }
 {
     let mut taken = [false; 16];
     let mut other = false;
@@ -148,6 +148,7 @@ fn judge_lines(text: &[u8]) -> Judgement
 // Any bytes, of any length: 5 over the whole text first, then line by line 6, 7, LO past HI, 8.
 pub fn judge_text(text: &[u8]) -> Judgement
     ensures { λ r. ⌜ judgementOf r ≡ readVerdict (read (now (text .entry))) ⌝ }
+    ensures { λ r. ⌜ r ≡ judgementFor (read (now (text .entry))) ⌝ }
 {
     if shaped(text) {
         judge_lines(text)

@@ -1,6 +1,6 @@
 -- Calls that write intervals into a lent slice, one after the other, each lent what the ones before it left. Assumes nothing.
 use mathlib.Core.Path.{_≡_, refl, sym, ap, subst, _∙_}
-use mathlib.Core.List.{List, [], _∷_, _++_}
+use mathlib.Core.List.{List, [], _++_}
 use borrow.Rule.Slice.PartMut.{midOf, putMid}
 use Prim.Native.Nat.{ℕ, _+_, _-_, _≤_}
 use native.Mathlib.Omega.{arith}
@@ -50,3 +50,19 @@ module _ {x : List Interval} {l old : List ℤ} {r : ℕ} (w : Wrote r x l old) 
         left = tail-next (flat x) (flat y) old l m r (w .left) (w .count) (omega (arith, w .count, w .room)) (v .left) ∙ ap (λ (z : List ℤ). over z old) (sym (flat-append x y));
         room = omega (arith, w .count, v .count, n);
       }
+
+-- ---- two calls that together write the intervals d
+
+pub room-as : {x y : List Interval} {n : ℕ} → x ≡ y → length (flat y) ≤ n → length (flat x) ≤ n
+room-as {n = n} e h = subst (λ (l : List Interval). length (flat l) ≤ n) (sym e) h
+
+module _ (x y : List Interval) {d : List Interval} (e : x ++ y ≡ d) where
+  pub two-first : {n : ℕ} → length (flat d) ≤ n → length (flat x) ≤ n
+  two-first {n} h = first-room x y n (room-as e h)
+
+  module _ {l old : List ℤ} {r : ℕ} (h : length (flat d) ≤ length old) (w : Wrote r x l old) where
+    pub two-second : length (flat y) ≤ length (midOf r (length l - r) l)
+    two-second = room-next w y (room-as e h)
+
+    pub two-wrote : {m : List ℤ} {k : ℕ} → Wrote k y m (midOf r (length l - r) l) → Wrote (r + k) d (putMid r (length l - r) l m) old
+    two-wrote v = wrote-as e (wrote-next w (room-as e h) v)

@@ -1,6 +1,5 @@
 -- Two numbers are an interval.
 use Rattle.bools.proofs.Ends.{filled-long}
-use borrow.Author.Needs.{needs}
 use Rattle.bools.proofs.is_filled.Statement.{statement}
 use Rattle.bools.proofs.is_filled.Tie as tie
 

@@ -1,13 +1,10 @@
 -- A set of one interval is {0} where both of its ends are 0.
-use mathlib.Core.Path.{_≡_, sym, ap, _∙_}
-use mathlib.Core.Bool.{true, false, _&&_}
-use lib.ListN.{length, getD}
-use lib.IntN.{ℤ, pos}
+use mathlib.Core.Path.{sym, _∙_}
+use lib.ListN.{getD}
+use lib.IntN.{pos}
 use native.Mathlib.Omega.{arith}
-use Prim.Native.Nat.{_/_}
 use borrow.Author.Tests.{not-true, not-false}
-use Rattle.meaning.specs.Number.{eqZ}
-use Rattle.meaning.proofs.Integers.{and-left, and-yes}
+use Rattle.meaning.proofs.Integers.{and-left}
 use Rattle.meaning.proofs.Machine.{back}
 use Rattle.bools.proofs.Ends.{zero-not, zero-one}
 use borrow.Author.Needs.{needs}

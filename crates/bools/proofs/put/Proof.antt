@@ -1,7 +1,4 @@
 -- The four cases of what it may be.
-use mathlib.Core.Path.{_≡_, sym, ap, _∙_}
-use mathlib.Core.Bool.{Bool, true, false, cond}
-use Rattle.meaning.specs.NumberIntervals.{ofBools}
 use Rattle.slices.proofs.Lent.{wrote-as, wrote-none}
 use Rattle.bools.proofs.Ends.{of-yes-yes, of-yes-no, of-no-yes, of-no-no}
 use borrow.Author.Needs.{needs}

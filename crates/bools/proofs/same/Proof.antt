@@ -1,6 +1,5 @@
 -- The bits of two numbers are the same just when the numbers are.
 use Rattle.bools.proofs.Ends.{same-bits}
-use borrow.Author.Needs.{needs}
 use Rattle.bools.proofs.same.Statement.{statement}
 use Rattle.bools.proofs.same.Tie as tie
 

@@ -1,8 +1,8 @@
 -- Each return is one of the cases of the definition.
 use mathlib.Core.Path.{_≡_, sym, ap, _∙_}
 use mathlib.Core.Option.{Option, none, some}
-use mathlib.Core.Bool.{Bool, true, false, cond}
-use lib.ListN.{length, getD}
+use mathlib.Core.Bool.{true, false}
+use lib.ListN.{getD}
 use lib.IntN.{ℤ, pos}
 use borrow.Author.Tests.{not-true, not-false}
 use Rattle.meaning.specs.Number.{eqZ}

@@ -1,6 +1,6 @@
 -- `forms::arg` and `forms::form` meet their contracts: each return is one case of the definition, and the brackets left fall at each call of a form.
 use mathlib.Core.Path.{sym, ap, _∙_}
-use Prim.Native.Nat.{_+_}
+use Prim.Native.Nat.{_+_, ℕ, _<_}
 use mathlib.Core.Bool.{Bool}
 use Rattle.meaning.specs.Reading.{closed}
 use Rattle.forms.specs.Answer.{sizes, gotOf, headOf, registerOf}
@@ -8,7 +8,6 @@ use Rattle.forms.proofs.Within.{start-le, byte-lt, rest-is, register-pa
 use Rattle.forms.proofs.Forms.{arg-none, arg-form, size-literal, size-bad, form-none, form-register, form-no-register, form-one, form-one-bad, form-two-bad, form-no-space, form-two, form-second-bad}
 use borrow.Author.Needs.{needs}
 use native.Mathlib.Omega.{arith}
-use Prim.Native.Nat.{ℕ, _<_}
 use borrow.Fn.Kinds.{In}
 use borrow.Fn.PlainCycle.{Measures, is, falls, and}
 use Rattle.forms.proofs.arg.Reads as arg

@@ -1,3 +1,4 @@
+-- `forms::at` meets its contract: past the end `getD` gives its default.
 use borrow.Author.Needs.{needs}
 use mathlib.Core.Path.{sym}
 use lib.ListN.{List·getD-eq-default}

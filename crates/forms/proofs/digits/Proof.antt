@@ -1,4 +1,4 @@
--- The invariant: the digits in all are those passed and those from i on.
+-- `forms::digits` meets its contract. The invariant: the digits in all are those passed and those from i on.
 use Prim.Native.Nat.{_≤_, _+_, _-_}
 use mathlib.Core.Path.{_≡_}
 use native.Mathlib.Omega.{arith}

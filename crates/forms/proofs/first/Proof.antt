@@ -1,3 +1,4 @@
+-- `forms::first` meets its contract: a part that is not cut is the whole.
 use borrow.Author.Needs.{needs}
 use mathlib.Core.Path.{sym}
 use native.Mathlib.Omega.{arith}

@@ -1,4 +1,4 @@
--- The invariant: what is still to come from v is what comes from a in all.
+-- `forms::number` meets its contract. The invariant: what is still to come from v is what comes from a in all.
 use Prim.Native.Nat.{_≤_, _-_}
 use mathlib.Core.Path.{_≡_, refl}
 use native.Mathlib.Omega.{arith}

@@ -1,5 +1,5 @@
-use Rattle.forms.proofs.Lines.{range-far, range-crossed, range-hold, range-in}
 -- `forms::range_line` meets its contract: the tests are the definition's, in its order.
+use Rattle.forms.proofs.Lines.{range-far, range-crossed, range-hold, range-in}
 use Rattle.forms.proofs.range_line.Statement.{statement}
 use Rattle.forms.proofs.range_line.Tie as tie
 

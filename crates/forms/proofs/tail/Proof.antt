@@ -1,3 +1,4 @@
+-- `forms::tail` meets its contract: what is dropped past the end leaves nothing.
 use Prim.Native.Nat.{_-_}
 use lib.ListN.{length, drop, length-drop, drop-of-length-le}
 use lib.Seq.{take-all, drop-length}

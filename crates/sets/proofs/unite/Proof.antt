@@ -4,7 +4,6 @@ use Prim.Native.Nat.{_+_}
 use native.Mathlib.Omega.{arith}
 use lib.ListN.{length, take, length-append}
 use lib.Seq.{length-take-le}
-use Rattle.sorting.proofs.Arrange.{merge-in}
 use Rattle.sets.proofs.Bridge.{set-valid}
 use borrow.Author.Needs.{needs}
 use Rattle.sets.proofs.Merged.{laid, laid-long, laid-rest, laid-back, take-whole, united-by, united-few}

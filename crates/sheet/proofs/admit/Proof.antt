@@ -1,5 +1,5 @@
-use Rattle.sheet.proofs.Judging.{in-register, in-late, in-again, in-first, put-admits, hold-admits, refused-admits}
 -- `sheet::admit` meets its contract: one case for each kind of line.
+use Rattle.sheet.proofs.Judging.{in-register, in-late, in-again, in-first, put-admits, hold-admits, refused-admits}
 use borrow.Author.Needs.{needs}
 use Rattle.sheet.proofs.admit.Statement.{statement}
 use Rattle.sheet.proofs.admit.Tie as tie

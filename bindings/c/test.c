@@ -1,0 +1,89 @@
+/* Calls every function of juwenfo.h once, so that a declaration that differs from the archive's function shows. */
+#include "juwenfo.h"
+#include <stdio.h>
+#include <string.h>
+
+_Static_assert(sizeof(juwenfo_maybe) == 16 && sizeof(juwenfo_answer) == 16 && sizeof(juwenfo_part) == 16 && sizeof(juwenfo_verdict) == 24, "sizes");
+
+static int faults;
+
+static void expect(bool ok, const char *what) {
+    if (!ok) {
+        faults++;
+        printf("FAULT: %s\n", what);
+    }
+}
+
+static void numbers(void) {
+    expect(juwenfo_number_neg(INT64_MIN) == INT64_MIN && juwenfo_number_neg(5) == -5, "number_neg");
+    expect(juwenfo_number_abs(-5) == 5, "number_abs");
+    expect(juwenfo_number_add(INT64_MAX, 1) == INT64_MIN, "number_add");
+    expect(juwenfo_number_sub(3, 5) == -2, "number_sub");
+    expect(juwenfo_number_mul(2500, -2000) == -5000, "number_mul");
+    juwenfo_maybe d = juwenfo_number_div(7, -2), z = juwenfo_number_div(7, 0), r = juwenfo_number_rem(-7, 4);
+    expect(d.there && d.number == -3500 && !z.there && z.number == 0, "number_div");
+    expect(r.there && r.number == -3 && !juwenfo_number_rem(1, 0).there, "number_rem");
+    expect(juwenfo_number_next(1).number == 2 && !juwenfo_number_next(INT64_MAX).there, "number_next");
+    expect(juwenfo_number_prev(1).there && !juwenfo_number_prev(INT64_MIN).there, "number_prev");
+    expect(juwenfo_number_as_bool(-1) && !juwenfo_number_as_bool(0), "number_as_bool");
+    expect(juwenfo_number_not(0) == 1000 && juwenfo_number_and(1, 0) == 0 && juwenfo_number_or(1, 0) == 1000, "number_not, and, or");
+    expect(juwenfo_number_le(2, 3) == 1000 && juwenfo_number_lt(3, 2) == 0 && juwenfo_number_ne(2, 3) == 1000, "number_le, lt, ne");
+}
+
+static int64_t work[JUWENFO_WORK], out[8];
+
+static void is(juwenfo_answer a, bool flag, size_t count, const int64_t *ends, const char *what) {
+    expect(a.number == 0 && a.flag == flag && a.count == count && memcmp(out, ends, count * sizeof *out) == 0, what);
+}
+
+static void sets(void) {
+    const int64_t l[] = {-5, 3}, r[] = {2, 2};
+#define W work, JUWENFO_WORK, out, 8
+#define E(...) (const int64_t[]){__VA_ARGS__}
+    is(juwenfo_set_neg(l, 2, true, W), true, 2, E(-3, 5), "set_neg");
+    is(juwenfo_set_abs(l, 2, false, W), false, 2, E(0, 5), "set_abs");
+    is(juwenfo_set_add(l, 2, true, r, 2, W), true, 2, E(-3, 5), "set_add");
+    is(juwenfo_set_sub(l, 2, false, r, 2, W), false, 2, E(-7, 1), "set_sub");
+    is(juwenfo_set_mul(E(-5000, 3000), 2, false, E(2000, 2000), 2, W), false, 2, E(-10000, 6000), "set_mul");
+    is(juwenfo_set_div(r, 2, false, E(0, 1), 2, W), true, 2, E(2000, 2000), "set_div");
+    is(juwenfo_set_rem(E(7, 9), 2, false, E(4, 4), 2, W), false, 4, E(0, 1, 3, 3), "set_rem");
+    is(juwenfo_set_not(l, 2, out, 8), false, 4, E(0, 0, 1000, 1000), "set_not");
+    is(juwenfo_set_and(r, 2, r, 2, out, 8), false, 2, E(1000, 1000), "set_and");
+    is(juwenfo_set_or(r, 2, l, 2, out, 8), false, 2, E(1000, 1000), "set_or");
+    is(juwenfo_set_le(l, 2, r, 2, out, 8), false, 4, E(0, 0, 1000, 1000), "set_le");
+    is(juwenfo_set_lt(r, 2, r, 2, out, 8), false, 2, E(0, 0), "set_lt");
+    is(juwenfo_set_ne(r, 2, r, 2, out, 8), false, 2, E(0, 0), "set_ne");
+    is(juwenfo_set_union(l, 2, E(4, 9), 2, out, 8), false, 2, E(-5, 9), "set_union");
+    is(juwenfo_set_intersect(l, 2, E(0, 9), 2, out, 8), false, 2, E(0, 3), "set_intersect");
+    expect(juwenfo_set_add(l, 1, false, r, 2, W).number == 1, "1");
+    expect(juwenfo_set_neg(l, 2, false, work, 3, out, 8).number == 3, "3");
+    expect(juwenfo_set_neg(l, 2, false, work, 4, out, 1).number == 4, "4");
+    expect(juwenfo_set_not(NULL, 0, NULL, 0).number == 0, "an empty set");
+}
+
+static int64_t bands[JUWENFO_SETS];
+
+static void sheets(void) {
+    const uint8_t text[] = "(in 0 -1 2)\n(put 1 (mul (reg 0) 2.5))\n(hold 1 -3 5)\n";
+    size_t n = sizeof text - 1;
+    juwenfo_part p = juwenfo_line(text, n, 2);
+    expect(p.start == 12 && p.length == 25 && juwenfo_line(text, n, 9).length == 0, "line");
+    juwenfo_verdict v = juwenfo_judge(text, n - 1);
+    expect(v.number == 5 && v.line == 0 && v.count == 0, "judge");
+    v = juwenfo_check(text, n, bands, JUWENFO_SETS, work, JUWENFO_WORK);
+    expect(v.number == 0 && v.count == 3 && bands[33] == 1 && bands[34] == -2500 && bands[35] == 5000, "check");
+    int64_t lent[JUWENFO_LENT] = {1500};
+    v = juwenfo_run(text, n, lent, JUWENFO_LENT);
+    expect(v.number == 0 && v.count == 3 && lent[1] == 3750, "run");
+    lent[0] = 9000;
+    v = juwenfo_run(text, n, lent, JUWENFO_LENT);
+    expect(v.number == 22 && v.line == 1, "run, stopped");
+}
+
+int main(void) {
+    numbers();
+    sets();
+    sheets();
+    printf("%d faults\n", faults);
+    return faults != 0;
+}

@@ -1,0 +1,191 @@
+"""Calls of Juwenfo from Python, over ctypes.
+
+A shared object is made from the archive, once:
+
+    rt staticlib exports
+    cc -shared -o libjuwenfo.so -Wl,--whole-archive target/staticlib/libexports.a -Wl,--no-whole-archive
+
+It is looked for at the path in JUWENFO_LIBRARY, else beside this file.
+
+Numbers are ints from MIN to MAX, counts of thousandths. A set is a list of (start, end) in order. A call that is refused raises Refused; a sheet that
+is refused, or meets a finding, raises Trouble.
+"""
+import ctypes
+import os
+
+MIN, MAX, ONE = -(1 << 63), (1 << 63) - 1, 1000
+REGISTERS, SLOT, WORK = 16, 33, 8192
+
+
+class Refused(Exception):
+    """A set call was refused: 1 not normal, 2 more than 16 intervals."""
+
+    def __init__(self, number):
+        super().__init__("refused with %d" % number)
+        self.number = number
+
+
+class Trouble(Exception):
+    """A sheet's refusal (5 to 9) or finding (20 to 22), and its line."""
+
+    def __init__(self, number, line):
+        super().__init__("number %d at line %d" % (number, line))
+        self.number, self.line = number, line
+
+
+class _Maybe(ctypes.Structure):
+    _fields_ = [("number", ctypes.c_int64), ("there", ctypes.c_bool)]
+
+
+class _Answer(ctypes.Structure):
+    _fields_ = [("count", ctypes.c_size_t), ("number", ctypes.c_uint8), ("flag", ctypes.c_bool)]
+
+
+class _Part(ctypes.Structure):
+    _fields_ = [("start", ctypes.c_size_t), ("length", ctypes.c_size_t)]
+
+
+class _Verdict(ctypes.Structure):
+    _fields_ = [("line", ctypes.c_size_t), ("count", ctypes.c_size_t), ("number", ctypes.c_uint8)]
+
+
+_lib = ctypes.CDLL(os.environ.get("JUWENFO_LIBRARY") or os.path.join(os.path.dirname(os.path.abspath(__file__)), "libjuwenfo.so"))
+_SLICE = [ctypes.POINTER(ctypes.c_int64), ctypes.c_size_t]
+_TEXT = [ctypes.c_char_p, ctypes.c_size_t]
+
+
+def _declared(name, arguments, result):
+    f = getattr(_lib, "juwenfo_" + name)
+    f.argtypes, f.restype = arguments, result
+    return f
+
+
+def _number(x):
+    """ctypes would cut a number to 64 bits without a word."""
+    if not MIN <= x <= MAX:
+        raise OverflowError("%d is beyond MIN..MAX" % x)
+    return x
+
+
+# ---- numbers
+
+def _point(name, operands, result):
+    f = _declared("number_" + name, [ctypes.c_int64] * operands, result)
+
+    def call(*numbers):
+        r = f(*map(_number, numbers))
+        if result is not _Maybe:
+            return r
+        return r.number if r.there else None
+
+    call.__name__ = "number_" + name
+    return call
+
+
+number_neg, number_abs, number_not = (_point(n, 1, ctypes.c_int64) for n in ("neg", "abs", "not"))
+number_next, number_prev = (_point(n, 1, _Maybe) for n in ("next", "prev"))  # None after MAX, before MIN
+number_as_bool = _point("as_bool", 1, ctypes.c_bool)
+number_add, number_sub, number_mul = (_point(n, 2, ctypes.c_int64) for n in ("add", "sub", "mul"))
+number_div, number_rem = (_point(n, 2, _Maybe) for n in ("div", "rem"))  # None for a divisor 0
+number_and, number_or = (_point(n, 2, ctypes.c_int64) for n in ("and", "or"))
+number_le, number_lt, number_ne = (_point(n, 2, ctypes.c_int64) for n in ("le", "lt", "ne"))
+
+
+# ---- sets
+
+def _slice(values):
+    return (ctypes.c_int64 * len(values))(*map(_number, values))
+
+
+def _ends(s):
+    return [x for interval in s for x in interval]
+
+
+def _pairs(values):
+    return list(zip(values[::2], values[1::2]))
+
+
+def _written(f, *arguments):
+    """Calls with an out that holds every answer: the set, and its flag."""
+    out = (ctypes.c_int64 * WORK)()
+    a = f(*arguments, out, len(out))
+    if a.number:
+        raise Refused(a.number)
+    return _pairs(out[: a.count]), a.flag
+
+
+def _set_work(name, operands):
+    f = _declared("set_" + name, _SLICE + [ctypes.c_bool] + _SLICE * operands + _SLICE, _Answer)
+
+    def call(left, *right, flag=False):
+        if len(right) != operands - 1:
+            raise TypeError("%s takes %d sets" % (name, operands))
+        work = (ctypes.c_int64 * WORK)()
+        slices = [_slice(_ends(s)) for s in (left, *right)]
+        rest = [x for s in slices[1:] for x in (s, len(s))]
+        return _written(f, slices[0], len(slices[0]), flag, *rest, work, len(work))
+
+    call.__name__ = "set_" + name
+    return call
+
+
+def _set_plain(name, operands):
+    f = _declared("set_" + name, _SLICE * operands + _SLICE, _Answer)
+
+    def call(*sets):
+        if len(sets) != operands:
+            raise TypeError("%s takes %d sets" % (name, operands))
+        slices = [_slice(_ends(s)) for s in sets]
+        return _written(f, *(x for s in slices for x in (s, len(s))))[0]
+
+    call.__name__ = "set_" + name
+    return call
+
+
+# A set and its flag; the keyword `flag` is the left set's.
+set_neg, set_abs = (_set_work(n, 1) for n in ("neg", "abs"))
+set_add, set_sub, set_mul, set_div, set_rem = (_set_work(n, 2) for n in ("add", "sub", "mul", "div", "rem"))
+# A set alone: the flag of these is always false.
+set_not = _set_plain("not", 1)
+set_and, set_or, set_le, set_lt, set_ne = (_set_plain(n, 2) for n in ("and", "or", "le", "lt", "ne"))
+set_union, set_intersect = (_set_plain(n, 2) for n in ("union", "intersect"))
+
+
+# ---- sheets: a text is bytes
+
+_line = _declared("line", _TEXT + [ctypes.c_size_t], _Part)
+_judge = _declared("judge", _TEXT, _Verdict)
+_check = _declared("check", _TEXT + _SLICE + _SLICE, _Verdict)
+_run = _declared("run", _TEXT + _SLICE, _Verdict)
+
+
+def _count(v):
+    if v.number:
+        raise Trouble(v.number, v.line)
+    return v.count
+
+
+def line(text, n):
+    """Line n, counted from 1, without its LF; line 0, and a line that no LF ends, are empty."""
+    part = _line(text, len(text), n)
+    return text[part.start : part.start + part.length]
+
+
+def judge(text):
+    """Reads a sheet without working it: how many lines it has."""
+    return _count(_judge(text, len(text)))
+
+
+def check(text):
+    """Checks a sheet: the set of each of the 16 registers after the last line."""
+    sets, work = (ctypes.c_int64 * (SLOT * REGISTERS))(), (ctypes.c_int64 * WORK)()
+    _count(_check(text, len(text), sets, len(sets), work, len(work)))
+    slots = [sets[SLOT * r : SLOT * (r + 1)] for r in range(REGISTERS)]
+    return [_pairs(s[1 : 1 + 2 * s[0]]) for s in slots]
+
+
+def run(text, lent=()):
+    """Runs a sheet on the numbers lent to registers 0, 1 .. (0 where none is): the 16 numbers after the last line."""
+    numbers = _slice(list(lent) + [0] * (REGISTERS - len(lent)))
+    _count(_run(text, len(text), numbers, len(numbers)))
+    return numbers[:REGISTERS]

@@ -1,0 +1,48 @@
+"""Every call once, with an answer that document 01 marks or that is plain to see."""
+import unittest
+
+import juwenfo as j
+from juwenfo import MAX, MIN
+
+SHEET = b"(in 0 -1 2)\n(put 1 (mul (reg 0) 2.5))\n(hold 1 -3 5)\n"
+
+
+class Calls(unittest.TestCase):
+    def test_numbers(self):
+        self.assertEqual([j.number_neg(MIN), j.number_abs(-5), j.number_add(MAX, 1), j.number_sub(MIN, 1), j.number_mul(2500, -2000)], [MIN, 5, MIN, MAX, -5000])
+        self.assertEqual([j.number_div(7, -2), j.number_div(1, 0), j.number_rem(-7, 4), j.number_rem(1, 0)], [-3500, None, -3, None])
+        self.assertEqual([j.number_next(MAX), j.number_next(0), j.number_prev(MIN), j.number_prev(0)], [None, 1, None, -1])
+        self.assertEqual([j.number_as_bool(0), j.number_not(0), j.number_and(1, 0), j.number_or(0, 1)], [False, 1000, 0, 1000])
+        self.assertEqual([j.number_le(3, 3), j.number_lt(3, 3), j.number_ne(3, 4)], [1000, 0, 1000])
+        self.assertRaises(OverflowError, j.number_neg, MAX + 1)
+
+    def test_sets(self):
+        self.assertEqual(j.set_neg([(MIN, -1)]), ([(MIN, MIN), (1, MAX)], False))
+        self.assertEqual(j.set_abs([(-5, 3)], flag=True), ([(0, 5)], True))
+        self.assertEqual(j.set_add([(MAX - 2, MAX)], [(1, 1)]), ([(MIN, MIN), (MAX - 1, MAX)], False))
+        self.assertEqual(j.set_sub([(5, 7)], [(1, 2)]), ([(3, 6)], False))
+        self.assertEqual(j.set_mul([(2, 3)], [(1000, 2000)]), ([(2, 6)], False))
+        self.assertEqual(j.set_div([(0, 0)], [(-1, 1)]), ([(0, 0)], True))
+        self.assertEqual(j.set_rem([(7, 9)], [(4, 4)]), ([(0, 1), (3, 3)], False))
+        self.assertEqual([j.set_not([(0, 1)]), j.set_and([(1, 1)], [(0, 0)]), j.set_or([(1, 1)], [(0, 0)])], [[(0, 0), (1000, 1000)], [(0, 0)], [(1000, 1000)]])
+        self.assertEqual([j.set_le([(0, 1)], [(0, 0)]), j.set_lt([(3, 3)], [(3, 3)]), j.set_ne([(3, 3)], [(3, 3)])], [[(0, 0), (1000, 1000)], [(0, 0)], [(0, 0)]])
+        self.assertEqual([j.set_union([(1, 2)], [(3, 4)]), j.set_intersect([(1, 5)], [(4, 9)])], [[(1, 4)], [(4, 5)]])
+
+    def test_refusals(self):
+        for left, number in (([(1, 2), (3, 4)], 1), ([(3 * i, 3 * i) for i in range(17)], 2)):
+            with self.assertRaises(j.Refused) as e:
+                j.set_neg(left)
+            self.assertEqual(e.exception.number, number)
+
+    def test_sheets(self):
+        self.assertEqual([j.line(SHEET, 1), j.line(SHEET, 0), j.line(SHEET, 4), j.judge(SHEET)], [b"(in 0 -1 2)", b"", b"", 3])
+        self.assertEqual(j.check(SHEET)[:3], [[(-1000, 2000)], [(-2500, 5000)], [(0, 0)]])
+        self.assertEqual(j.run(SHEET, [1500])[:3], [1500, 3750, 0])
+        for call, number, line in ((lambda: j.check(b"(hold 0 1 2)\n"), 21, 1), (lambda: j.judge(b"x"), 5, 0), (lambda: j.run(SHEET, [2001]), 22, 1)):
+            with self.assertRaises(j.Trouble) as e:
+                call()
+            self.assertEqual((e.exception.number, e.exception.line), (number, line))
+
+
+if __name__ == "__main__":
+    unittest.main()

@@ -1,0 +1,61 @@
+//! Safe calls of Juwenfo: point operations ([`number`]), set operations ([`set`]), and sheets. Nothing is allocated.
+#![no_std]
+#![warn(missing_docs)]
+
+pub mod number;
+pub mod set;
+pub mod sys;
+
+/// Numbers that the check needs for its sets: [`SLOT`] for each of the 16 registers.
+pub const SETS: usize = 528;
+/// The numbers of one register: how many intervals, then 32 for their ends.
+pub const SLOT: usize = 33;
+/// Numbers of work that the check needs.
+pub const WORK: usize = 8192;
+/// Numbers that the run needs, one a register.
+pub const LENT: usize = 16;
+
+/// A refusal (3, 5 to 9) or a finding (20 to 22), and its line; the line is 0 for 3 and 5.
+#[derive(Clone, Copy, Debug, PartialEq, Eq)]
+pub struct Trouble {
+    /// The number of the refusal or finding.
+    pub number: u8,
+    /// Counted from 1.
+    pub line: usize,
+}
+
+fn verdict(v: sys::Verdict) -> Result<usize, Trouble> {
+    match v.number {
+        0 => Ok(v.count),
+        number => Err(Trouble { number, line: v.line }),
+    }
+}
+
+/// Line `n` of any bytes, counted from 1, without its LF; line 0, and a line that no LF ends, are empty.
+pub fn line(text: &[u8], n: usize) -> &[u8] {
+    let part = unsafe { sys::juwenfo_line(text.as_ptr(), text.len(), n) };
+    &text[part.start..part.start + part.length]
+}
+
+/// Reads a sheet without working it: how many lines it has.
+pub fn judge(text: &[u8]) -> Result<usize, Trouble> {
+    verdict(unsafe { sys::juwenfo_judge(text.as_ptr(), text.len()) })
+}
+
+/// Checks a sheet: how many lines it has if it passes. The first [`SETS`] numbers of `sets` are then the registers' sets after the last line; otherwise
+/// `sets` is as lent. `work` needs [`WORK`] numbers, which are 0 afterwards unless the sheet was refused with 3 or 5 to 8.
+pub fn check(text: &[u8], sets: &mut [i64], work: &mut [i64]) -> Result<usize, Trouble> {
+    verdict(unsafe { sys::juwenfo_check(text.as_ptr(), text.len(), sets.as_mut_ptr(), sets.len(), work.as_mut_ptr(), work.len()) })
+}
+
+/// The ends of a register's set in the numbers that a passed check left. Panics on other numbers, or where `register` is past 15.
+pub fn ends(sets: &[i64], register: usize) -> &[i64] {
+    let slot = &sets[SLOT * register..SLOT * (register + 1)];
+    &slot[1..1 + 2 * slot[0] as usize]
+}
+
+/// Runs a sheet on the numbers that are lent for its `in` lines: how many lines it has if it is done. The first [`LENT`] numbers are then the registers
+/// after the last line, after 20 to 22 those before that line, and after a refusal they are as lent.
+pub fn run(text: &[u8], lent: &mut [i64]) -> Result<usize, Trouble> {
+    verdict(unsafe { sys::juwenfo_run(text.as_ptr(), text.len(), lent.as_mut_ptr(), lent.len()) })
+}

@@ -1,0 +1,112 @@
+//! Every call once with an answer that document 01 marks or that is plain to see, and every refusal.
+use juwenfo::set::{self, Refused, Written};
+use juwenfo::{check, ends, judge, line, number, run, Trouble, SETS, WORK};
+
+const MIN: i64 = i64::MIN;
+const MAX: i64 = i64::MAX;
+const OLD: i64 = -77;
+
+type Call1 = fn(&[i64], bool, &mut [i64], &mut [i64]) -> set::Reply;
+type Call2 = fn(&[i64], bool, &[i64], &mut [i64], &mut [i64]) -> set::Reply;
+type Plain = fn(&[i64], &[i64], &mut [i64]) -> set::Reply;
+
+fn one(f: Call1, left: &[i64]) -> (Vec<i64>, bool) {
+    let (mut work, mut out) = (vec![OLD; 64], vec![OLD; 64]);
+    let w = f(left, false, &mut work, &mut out).unwrap();
+    assert!(out[w.count..].iter().all(|&x| x == OLD));
+    (out[..w.count].to_vec(), w.flag)
+}
+
+fn two(f: Call2, left: &[i64], right: &[i64]) -> (Vec<i64>, bool) {
+    let (mut work, mut out) = (vec![OLD; 8192], vec![OLD; 64]);
+    let w = f(left, false, right, &mut work, &mut out).unwrap();
+    assert!(out[w.count..].iter().all(|&x| x == OLD));
+    (out[..w.count].to_vec(), w.flag)
+}
+
+fn plain(f: Plain, left: &[i64], right: &[i64]) -> Vec<i64> {
+    let mut out = vec![OLD; 64];
+    let w = f(left, right, &mut out).unwrap();
+    assert!(!w.flag && out[w.count..].iter().all(|&x| x == OLD));
+    out[..w.count].to_vec()
+}
+
+#[test]
+fn numbers() {
+    assert_eq!((number::neg(MIN), number::neg(5), number::abs(MIN), number::abs(-5)), (MIN, -5, MIN, 5));
+    assert_eq!((number::add(MAX, 1), number::sub(MIN, 1), number::mul(2500, -2000)), (MIN, MAX, -5000));
+    assert_eq!((number::div(7, -2), number::div(1, 0), number::rem(-7, 4), number::rem(1, 0)), (Some(-3500), None, Some(-3), None));
+    assert_eq!((number::next(0), number::next(MAX), number::prev(0), number::prev(MIN)), (Some(1), None, Some(-1), None));
+    assert_eq!((number::as_bool(0), number::as_bool(-3), number::not(0), number::not(7)), (false, true, 1000, 0));
+    assert_eq!((number::and(1, 0), number::and(1, 2), number::or(0, 0), number::or(0, 2)), (0, 1000, 0, 1000));
+    assert_eq!((number::le(3, 3), number::lt(3, 3), number::ne(3, 3)), (1000, 0, 0));
+    assert_eq!((number::le(4, 3), number::lt(2, 3), number::ne(2, 3)), (0, 1000, 1000));
+}
+
+#[test]
+fn sets() {
+    assert_eq!(one(set::neg, &[MIN, -1]), (vec![MIN, MIN, 1, MAX], false));
+    assert_eq!(one(set::abs, &[-5, 3]), (vec![0, 5], false));
+    assert_eq!(two(set::add, &[MAX - 2, MAX], &[1, 1]), (vec![MIN, MIN, MAX - 1, MAX], false));
+    assert_eq!(two(set::sub, &[5, 7], &[1, 2]), (vec![3, 6], false));
+    assert_eq!(two(set::mul, &[6917529027641081855, 6917529027641082856], &[4, 4]), (vec![MIN, -9223372036854771, 9223372036854775, MAX], false));
+    assert_eq!(two(set::div, &[0, 0], &[-1, 1]), (vec![0, 0], true));
+    assert_eq!(two(set::rem, &[7, 7], &[0, 0]), (vec![], true));
+    assert_eq!(two(set::rem, &[7, 9], &[4, 4]), (vec![0, 1, 3, 3], false));
+    let mut out = [OLD; 5];
+    assert_eq!(set::not(&[0, 1], &mut out), Ok(Written { count: 4, flag: false }));
+    assert_eq!(out, [0, 0, 1000, 1000, OLD]);
+    assert_eq!(plain(set::and, &[1, 1], &[0, 0]), [0, 0]);
+    assert_eq!(plain(set::or, &[1, 1], &[0, 0]), [1000, 1000]);
+    assert_eq!(plain(set::le, &[0, 1], &[0, 0]), [0, 0, 1000, 1000]);
+    assert_eq!(plain(set::lt, &[3, 3], &[3, 3]), [0, 0]);
+    assert_eq!(plain(set::ne, &[3, 3], &[3, 4]), [0, 0, 1000, 1000]);
+    assert_eq!(plain(set::union, &[1, 2], &[3, 4]), [1, 4]);
+    assert_eq!(plain(set::intersect, &[1, 5, 9, 9], &[4, 10]), [4, 5, 9, 9]);
+}
+
+#[test]
+fn refusals_of_sets() {
+    let (mut work, mut out) = ([OLD; 8], [OLD; 2]);
+    let long: Vec<i64> = (0..34).map(|i| 3 * i).collect();
+    assert_eq!(set::add(&[1, 2, 3, 4], false, &long, &mut work, &mut out), Err(Refused(1)));
+    assert_eq!(set::add(&[5, 5], false, &long, &mut work, &mut out), Err(Refused(2)));
+    assert_eq!(set::add(&[1, 1], false, &[2], &mut work, &mut out), Err(Refused(1)));
+    assert_eq!(set::add(&[1, 1], false, &[2, 2], &mut work[..3], &mut out), Err(Refused(3)));
+    assert_eq!((work, out), ([OLD; 8], [OLD; 2]));
+    assert_eq!(set::add(&[1, 1], true, &[2, 2], &mut work, &mut out[..1]), Err(Refused(4)));
+    assert_eq!((work, out), ([0, 0, 0, 0, OLD, OLD, OLD, OLD], [OLD; 2]));
+    assert_eq!(set::add(&[1, 1], true, &[2, 2], &mut work, &mut out), Ok(Written { count: 2, flag: true }));
+    assert_eq!(out, [3, 3]);
+    assert_eq!(set::need(set::DIV, &[1, 2, 4, 5], &[1, 2]), 48);
+}
+
+const SHEET: &[u8] = b"(in 0 -1 2)\n(put 1 (mul (reg 0) 2.5))\n(hold 1 -3 5)\n";
+
+#[test]
+fn lines() {
+    assert_eq!(line(SHEET, 2), b"(put 1 (mul (reg 0) 2.5))");
+    assert_eq!((line(SHEET, 0), line(SHEET, 4), line(b"a\nb", 2), line(b"a\nb", 1), line(b"", 1)), (&b""[..], &b""[..], &b""[..], &b"a"[..], &b""[..]));
+    assert_eq!(judge(SHEET), Ok(3));
+    assert_eq!((judge(b""), judge(b"x"), judge(b"\n")), (Ok(0), Err(Trouble { number: 5, line: 0 }), Err(Trouble { number: 6, line: 1 })));
+}
+
+#[test]
+fn sheets() {
+    let (mut sets, mut work) = (vec![OLD; SETS + 1], vec![OLD; WORK + 1]);
+    assert_eq!(check(SHEET, &mut sets, &mut work), Ok(3));
+    assert_eq!((ends(&sets, 0), ends(&sets, 1), ends(&sets, 2)), (&[-1000, 2000][..], &[-2500, 5000][..], &[0, 0][..]));
+    assert!(work[..WORK].iter().all(|&x| x == 0) && work[WORK] == OLD && sets[SETS] == OLD);
+    assert_eq!(check(b"(hold 0 1 2)\n", &mut sets, &mut work), Err(Trouble { number: 21, line: 1 }));
+    assert_eq!(check(b"(put 0 (div 1 (reg 0)))\n", &mut sets, &mut work), Err(Trouble { number: 20, line: 1 }));
+    assert_eq!(ends(&sets, 1), [-2500, 5000]);
+    assert_eq!(check(SHEET, &mut sets[..SETS - 1], &mut work), Err(Trouble { number: 3, line: 0 }));
+    let mut lent = [OLD; 17];
+    lent[0] = 1500;
+    assert_eq!(run(SHEET, &mut lent), Ok(3));
+    assert_eq!((lent[0], lent[1], lent[2], lent[16]), (1500, 3750, 0, OLD));
+    lent[0] = 2001;
+    assert_eq!(run(SHEET, &mut lent), Err(Trouble { number: 22, line: 1 }));
+    assert_eq!((lent[0], lent[1]), (0, 0));
+    assert_eq!(run(SHEET, &mut lent[..15]), Err(Trouble { number: 3, line: 0 }));
+}

@@ -1,0 +1,51 @@
+// A plain case of div: the hull of four corner quotients.
+use number::quot;
+use slices::greater;
+use slices::lesser;
+use slices::put_one;
+ghost use mathlib.Core.Path.{_≡_};
+ghost use mathlib.Core.Bool.{true, cond};
+ghost use mathlib.Core.List.{[]};
+ghost use Prim.Native.Nat.{_≤_};
+ghost use lib.ListN.{length};
+ghost use Rattle.meaning.specs.Number.{smaller, larger};
+ghost use Rattle.meaning.specs.Interval.{divPlain};
+ghost use Rattle.meaning.specs.NumberIntervals.{flat};
+ghost use Rattle.meaning.proofs.Quotients.{Plain};
+ghost use Rattle.slices.specs.Wrote.{Wrote};
+
+// The least of four numbers.
+fn least(a: i64, b: i64, c: i64, d: i64) -> i64
+    ensures { λ r. ⌜ r ≡ smaller (smaller a b) (smaller c d) ⌝ }
+{
+    lesser(lesser(a, b), lesser(c, d))
+}
+
+// The greatest of four numbers.
+fn greatest(a: i64, b: i64, c: i64, d: i64) -> i64
+    ensures { λ r. ⌜ r ≡ larger (larger a b) (larger c d) ⌝ }
+{
+    greater(greater(a, b), greater(c, d))
+}
+
+// [s,e] by [t,f].
+pub fn put_hull(out: &mut [i64], s: i64, e: i64, t: i64, f: i64) -> usize
+    requires { ⌜ Plain s e t f ⌝ ∗ ⌜ 2 ≤ length (now out) ⌝ }
+    ensures { λ r. ⌜ Wrote r (divPlain s e t f) (now (out .exit)) (now (out .entry)) ⌝ }
+{
+    let a = quot(s, t);
+    let b = quot(s, f);
+    let c = quot(e, t);
+    let d = quot(e, f);
+    let p = least(a, b, c, d);
+    let q = greatest(a, b, c, d);
+    put_one(out, p, q)
+}
+
+// The same where `there` says so, else nothing.
+pub fn put_hull_if(out: &mut [i64], there: bool, s: i64, e: i64, t: i64, f: i64) -> usize
+    requires { ⌜ (there ≡ true → Plain s e t f) ⌝ ∗ ⌜ length (flat (cond there (divPlain s e t f) [])) ≤ length (now out) ⌝ }
+    ensures { λ r. ⌜ Wrote r (cond there (divPlain s e t f) []) (now (out .exit)) (now (out .entry)) ⌝ }
+{
+    if there { put_hull(out, s, e, t, f) } else { 0 }
+}

@@ -1,0 +1,52 @@
+// Reads a sheet from standard input and writes its listing to standard output.
+ghost use lib.ListN.{length};
+ghost use Rattle.juwenfo.specs.Filled.{Filled};
+use listing::Listed;
+use listing::listing;
+
+// How many bytes were read, or that a read failed.
+enum Fill {
+    Bytes(usize),
+    Failed,
+}
+
+// Reads until the buffer is full or the input ends.
+fn read_text(buffer: &mut [u8]) -> Fill
+    ensures { λ r. ⌜ Filled r (length (now (buffer .exit))) ⌝ }
+{
+    let mut at = 0;
+    while at < buffer.len() {
+        let got = libc::read(0, &mut buffer[at..]);
+        if got < 0 {
+            return Fill::Failed;
+        }
+        let n = io::count(got, &buffer[at..]);
+        if n == 0 {
+            return Fill::Bytes(at);
+        }
+        at += n;
+    }
+    Fill::Bytes(at)
+}
+
+// No listing is longer than 11,081 bytes.
+fn write_listing(text: &[u8]) {
+    let mut out = [0u8; 11081];
+    match listing(text, &mut out) {
+        Listed::Written(n) => {
+            io::write_all(1, &out[..n]);
+        }
+        Listed::Short => {}
+    }
+}
+
+// The longest sheet has 256 lines of 121 bytes, so one byte more decides: such a text is refused whatever follows.
+fn main() {
+    let mut text = [0u8; 30977];
+    match read_text(&mut text) {
+        Fill::Bytes(n) => write_listing(&text[..n]),
+        Fill::Failed => {
+            io::write_all(2, b"the sheet cannot be read\n");
+        }
+    }
+}

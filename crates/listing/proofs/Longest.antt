@@ -1,0 +1,109 @@
+-- No listing is longer than `longest`: each number has at most twenty bytes, each set at most sixteen intervals, and there are at most 256 lines. Assumes nothing.
+use lib.Dec.{ltb}
+use lib.ListN.{length, length-append}
+use mathlib.Core.Path.{_≡_, refl, ap, _∙_}
+use mathlib.Core.Bool.{cond}
+use mathlib.Core.List.{List, [], _∷_, _++_}
+use Prim.Native.Nat.{ℕ, zero, suc, _+_, _*_, _/_, _%_, _≤_, _<_}
+use native.Mathlib.Omega.{arith}
+use Rattle.meaning.specs.Refusals.{zeroDivisor}
+use Rattle.meaning.specs.Outcome.{Outcome, done, stopped}
+use Rattle.meaning.specs.NumberIntervals.{Set, Normal}
+use Rattle.meaning.specs.Sheet.{registers, Line}
+use Rattle.meaning.specs.Text.{Read, sheet, noSheet, read}
+use Rattle.meaning.specs.Run.{worked, judge}
+use Rattle.meaning.specs.Check.{Bands, at, shipLimit, check, checkText}
+use Rattle.meaning.specs.CheckSets.{SoundBands}
+use Rattle.meaning.specs.Listing.{digitsBefore, decimal, decimalZ, troubleLine, intervalTexts, registerLine, registerLines, listed, passLine, outcomeText, readText, listing}
+use Rattle.meaning.proofs.Integers.{cond-case}
+use Rattle.meaning.proofs.Decimals.{decimal-most, decimalZ-most}
+use Rattle.meaning.proofs.Members.{AllProper, between, normal-proper}
+use Rattle.meaning.proofs.Integers.{≤ℤ-trans}
+use Rattle.meaning.proofs.Cut.{reads, read-length}
+use Rattle.meaning.proofs.CheckSets.{passed-sound}
+use Rattle.listing.specs.Longest.{intervalMost, lineMost, longest}
+
+-- ---- one line of a refusal or a finding
+
+digits-any : (k n : ℕ) (tail : List ℕ) → length (digitsBefore k n tail) ≤ k + length tail
+unfolding digitsBefore
+digits-any zero n tail = omega arith
+digits-any (suc k) n tail =
+    cond-case (λ (l : List ℕ). length l ≤ suc k + length tail) (ltb n 10) ((48 + n) ∷ tail) (digitsBefore k (n / 10) ((48 + n % 10) ∷ tail))
+    (λ t. omega arith) (λ t. omega (arith, digits-any k (n / 10) ((48 + n % 10) ∷ tail)))
+
+decimal-any : (n : ℕ) → length (decimal n) ≤ 20
+unfolding decimal
+decimal-any n = omega (arith, digits-any 20 n [])
+
+pub trouble-most : (k l : ℕ) → length (troubleLine k l) ≤ longest
+unfolding troubleLine
+trouble-most k l =
+    let w : List ℕ = cond (ltb k zeroDivisor) (114 ∷ 101 ∷ 102 ∷ 117 ∷ 115 ∷ 101 ∷ 100 ∷ []) (115 ∷ 116 ∷ 111 ∷ 112 ∷ []) in
+    let h = cond-case (λ (x : List ℕ). length x ≤ 7) (ltb k zeroDivisor) (114 ∷ 101 ∷ 102 ∷ 117 ∷ 115 ∷ 101 ∷ 100 ∷ []) (115 ∷ 116 ∷ 111 ∷ 112 ∷ []) (λ t. omega arith) (λ t. omega arith) in
+    omega (
+      arith,
+      h,
+      length-append w (32 ∷ decimal k ++ (32 ∷ decimal l ++ 10 ∷ [])),
+      length-append (decimal k) (32 ∷ decimal l ++ 10 ∷ []),
+      length-append (decimal l) (10 ∷ []),
+      decimal-any k,
+      decimal-any l,
+    )
+
+-- ---- the lines of a pass
+
+intervals-most : (s : Set) → AllProper s → length (intervalTexts s) ≤ intervalMost * length s
+unfolding intervalTexts
+intervals-most [] p = omega arith
+intervals-most (i ∷ s) p =
+    let q = p .0 in
+    omega (
+      arith,
+      length-append (decimalZ (i .lo)) (46 ∷ 46 ∷ decimalZ (i .hi) ++ intervalTexts s),
+      length-append (decimalZ (i .hi)) (intervalTexts s),
+      decimalZ-most (i .lo) (between (q .low) (≤ℤ-trans (q .ordered) (q .high))),
+      decimalZ-most (i .hi) (between (≤ℤ-trans (q .low) (q .ordered)) (q .high)),
+      intervals-most s (p .1),
+    )
+
+line-most : (r : ℕ) (s : Set) → r < registers → Normal s → length s ≤ shipLimit → length (registerLine r s) ≤ lineMost
+unfolding registerLine
+line-most r s h n k =
+    omega (
+      arith,
+      length-append (decimal r) (intervalTexts s ++ 10 ∷ []),
+      length-append (intervalTexts s) (10 ∷ []),
+      decimal-most 2 r (omega arith) (omega arith),
+      intervals-most s (normal-proper s n),
+    )
+
+lines-most : (ls : List Line) {B : Bands} → SoundBands shipLimit B → (n r : ℕ) → r + n ≤ registers → length (registerLines ls (B .sets) r n) ≤ lineMost * n
+unfolding registerLines
+lines-most ls h zero r k = omega arith
+lines-most ls {B} h (suc n) r k =
+    let x = cond (listed ls r) (registerLine r (at (B .sets) r)) [] in
+    let e = cond-case (λ (l : List ℕ). length l ≤ lineMost) (listed ls r) (registerLine r (at (B .sets) r)) []
+    (λ t. line-most r (at (B .sets) r) (omega arith) (h .each r .normal) (h .each r .few)) (λ t. omega arith) in
+    omega (arith, e, length-append x (registerLines ls (B .sets) (suc r) n), lines-most ls h n (suc r) (omega arith))
+
+pass-most : (n : ℕ) → n ≤ 256 → length (passLine n) ≤ 9
+unfolding passLine
+pass-most n h = omega (arith, length-append (decimal n) (10 ∷ []), decimal-most 3 n (omega arith) (omega arith))
+
+pub listing-most : (t : List ℕ) → length (listing t) ≤ longest
+unfolding listing readText outcomeText checkText
+listing-most t = go (read t) refl
+  where
+    go : (x : Read) → read t ≡ x → length (readText x) ≤ longest
+    go (noSheet k l) e = trouble-most k l
+    go (sheet ls) e = inner (check shipLimit ls) refl
+      where
+        few : length ls ≤ 256
+        few = let h = reads t e .shape .few in omega (arith, read-length t e)
+
+        inner : (o : Outcome Bands) → check shipLimit ls ≡ o → length (outcomeText ls o) ≤ longest
+        inner (stopped k l B) p = trouble-most k l
+        inner (done B) p =
+            let h = passed-sound shipLimit t (omega arith) (ap (judge (check shipLimit)) e ∙ ap (worked (length ls)) p) in
+            omega (arith, length-append (passLine (length ls)) (registerLines ls (B .sets) 0 registers), pass-most (length ls) few, lines-most ls h registers 0 (omega arith))

@@ -1,0 +1,55 @@
+-- What the check answers tells all that the text needs. Assumes nothing.
+use lib.ListN.{replicate, length-replicate}
+use lib.IntN.{pos}
+use Rattle.listing.proofs.Checked.{told-by}
+use borrow.Author.Needs.{needs}
+use Rattle.listing.proofs.list_into.Statement.{statement}
+use Rattle.listing.proofs.list_into.Tie as tie
+
+slice-aggregate-check : tie.Need-slice-aggregate-check
+slice-aggregate-check c = search needs
+
+slice-aggregate-check-2 : tie.Need-slice-aggregate-check-2
+slice-aggregate-check-2 c = search needs
+
+check-requires : tie.Need-check-requires
+check-requires c κs = search needs
+
+slice-aggregate-told : tie.Need-slice-aggregate-told
+slice-aggregate-told c = search needs
+
+number-of-requires : tie.Need-number-of-requires
+number-of-requires c κs = search needs
+
+line-of-requires : tie.Need-line-of-requires
+line-of-requires c κs = search needs
+
+count-of-requires : tie.Need-count-of-requires
+count-of-requires c κs = search needs
+
+told-requires : tie.Need-told-requires
+told-requires c κs =
+    let s = c .before .before .before .before .before .before .before .before .before .before .before .before in
+    let k = c .before .before .before .before .before .before .before .check .ensures in
+    (told-by (s .args .text .now) (replicate 528 (pos 0)) (replicate 8192 (pos 0)) (length-replicate 528 (pos 0)) (length-replicate 8192 (pos 0)) (k .0) (k .1 .1 .0) (c .before .before .number-of .ensures) (c .before .line-of .ensures) (c .count-of .ensures), s .pre)
+
+same-length : tie.Need-same-length
+same-length c = search needs
+
+returns : tie.Need-returns
+returns c = search needs
+
+pub list-into-spec : {M : Type 1} → statement M
+list-into-spec =
+    tie.close
+    (tie.spec
+    slice-aggregate-check
+    slice-aggregate-check-2
+    check-requires
+    slice-aggregate-told
+    number-of-requires
+    line-of-requires
+    count-of-requires
+    told-requires
+    same-length
+    returns)

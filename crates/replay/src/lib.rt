@@ -1,0 +1,218 @@
+// Stored cases: numbers read from a file, slices filled and compared, and a line of report for each operation. A stored number has eight bytes, the least
+// first, in two's complement. What a file holds is open, so the calls that read one promise only that they are safe and end.
+ghost use mathlib.Core.Path.{_≡_};
+ghost use mathlib.Core.Bool.{true, false, cond};
+ghost use Prim.Native.Nat.{_+_, _-_, _*_, _^_, _<_, min};
+ghost use lib.Dec.{leb};
+ghost use lib.ListN.{length, replicate};
+ghost use lib.IntN.{pos};
+ghost use Rattle.meaning.specs.Lists.{over};
+ghost use Rattle.meaning.specs.Number.{wrap};
+ghost use Rattle.replay.specs.Stored.{bitsAt};
+use libc::STDOUT_FILENO;
+
+// A byte as a length.
+pub fn wide(b: u8) -> usize
+    ensures { λ r. ⌜ r ≡ b ⌝ }
+{
+    b as usize
+}
+
+// Two bytes as a length, the least first.
+pub fn pair(low: u8, high: u8) -> usize
+    ensures { λ r. ⌜ r ≡ low + 256 * high ⌝ }
+{
+    wide(low) + 256 * wide(high)
+}
+
+// Four bytes as bits, the least first.
+fn half(a: u8, b: u8, c: u8, d: u8) -> u64
+    ensures { λ r. ⌜ r ≡ a + 256 * b + 65536 * (c + 256 * d) ⌝ }
+    ensures { λ r. ⌜ r < 4294967296 ⌝ }
+{
+    (pair(a, b) as u64) + 65536 * (pair(c, d) as u64)
+}
+
+// The number that eight bytes hold.
+pub fn number_in(b: &[u8; 8]) -> i64
+    ensures { λ r. ⌜ r ≡ wrap (pos (bitsAt 8 0 (now (b .entry)))) ⌝ }
+{
+    let low = half(b[0], b[1], b[2], b[3]);
+    let high = half(b[4], b[5], b[6], b[7]);
+    number::of_bits(low + 4294967296 * high)
+}
+
+// The next number of the file; bytes past its end read as 0.
+pub fn read_number(fd: i32) -> i64 {
+    let mut b = [0u8; 8];
+    io::read_full(fd, &mut b);
+    number_in(&b)
+}
+
+// 8,256 zeros, more than any call needs. The `ensures` gives only the length, which lending the array as a slice needs.
+pub fn numbers() -> [i64; 8256]
+    ensures { λ r. ⌜ 8256 ≡ length r ⌝ }
+{
+    [0; 8256]
+}
+
+// As many numbers of the file as s has places.
+pub fn read_numbers(fd: i32, s: &mut [i64]) {
+    let mut i = 0;
+    while i < s.len() {
+        s[i] = read_number(fd);
+        i += 1;
+    }
+}
+
+// The next n numbers of the file, at the front of s; false if s is too short.
+pub fn read_front(fd: i32, s: &mut [i64], n: usize) -> bool
+    ensures { λ r. ⌜ r ≡ leb n (length (now (s .entry))) ⌝ }
+{
+    if n > s.len() {
+        return false;
+    }
+    read_numbers(fd, &mut s[..n]);
+    true
+}
+
+// The next n bytes of the file, at the front of s; false if s or the file is too short.
+pub fn read_bytes(fd: i32, s: &mut [u8], n: usize) -> bool {
+    if n > s.len() {
+        return false;
+    }
+    io::read_full(fd, &mut s[..n]) == n
+}
+
+// Every place of s becomes v.
+pub fn fill(s: &mut [i64], v: i64)
+    ensures { λ _. ⌜ now (s .exit) ≡ replicate (length (now (s .entry))) v ⌝ }
+{
+    let mut i = 0;
+    while i < s.len() {
+        s[i] = v;
+        i += 1;
+    }
+}
+
+// The first n places of s become v; false if s is too short.
+pub fn fill_front(s: &mut [i64], n: usize, v: i64) -> bool
+    ensures { λ r. ⌜ r ≡ leb n (length (now (s .entry))) ⌝ }
+    ensures { λ r. ⌜ now (s .exit) ≡ cond r (over (replicate n v) (now (s .entry))) (now (s .entry)) ⌝ }
+{
+    if n > s.len() {
+        return false;
+    }
+    fill(&mut s[..n], v);
+    true
+}
+
+// Whether a and b hold the same numbers.
+pub fn same(a: &[i64], b: &[i64]) -> bool
+    ensures { λ r. ⌜ (r ≡ true → now (a .entry) ≡ now (b .entry)) × (now (a .entry) ≡ now (b .entry) → r ≡ true) ⌝ }
+{
+    if a.len() != b.len() {
+        return false;
+    }
+    let mut i = 0;
+    while i < a.len() {
+        let x = a[i];
+        let y = b[i];
+        if x != y {
+            return false;
+        }
+        i += 1;
+    }
+    true
+}
+
+// What replaying one case found: the file has no more, or the case agrees, or differs.
+pub enum Step {
+    End,
+    Agrees,
+    Differs,
+}
+
+// How many cases were replayed, how many of them differ, and the number of the first that does, counted from 1. `open` says whether the file has more.
+pub struct Tally {
+    pub open: bool,
+    pub cases: u64,
+    pub differ: u64,
+    pub first: u64,
+}
+
+// One more than n, but for the greatest number.
+fn more(n: u64) -> u64
+    ensures { λ r. ⌜ r ≡ min (n + 1) (2 ^ 64 - 1) ⌝ }
+{
+    if n < u64::MAX { n + 1 } else { n }
+}
+
+// The number of the first case that differs: `now`, unless one differed before.
+fn first_of(differ: u64, before: u64, now: u64) -> u64 {
+    if differ == 0 { now } else { before }
+}
+
+impl Tally {
+    pub fn new() -> Self
+        ensures { λ r. ⌜ (r .open ≡ true) × (r .cases ≡ 0) × (r .differ ≡ 0) × (r .first ≡ 0) ⌝ }
+    {
+        Tally {
+            open: true,
+            cases: 0,
+            differ: 0,
+            first: 0,
+        }
+    }
+
+    // The file has no more.
+    pub fn closed(mut self) -> Self
+        ensures { λ r. ⌜ (r .open ≡ false) × (r .cases ≡ self .cases) × (r .differ ≡ self .differ) × (r .first ≡ self .first) ⌝ }
+    {
+        self.open = false;
+        self
+    }
+
+    // One case more, which agrees.
+    pub fn agreed(mut self) -> Self
+        ensures { λ r. ⌜ (r .open ≡ self .open) × (r .cases ≡ min (self .cases + 1) (2 ^ 64 - 1)) × (r .differ ≡ self .differ) × (r .first ≡ self .first) ⌝ }
+    {
+        self.cases = more(self.cases);
+        self
+    }
+
+    // One case more, which differs.
+    pub fn differed(mut self) -> Self
+        ensures { λ r. ⌜ (r .open ≡ self .open) × (r .cases ≡ min (self .cases + 1) (2 ^ 64 - 1)) × (r .differ ≡ min (self .differ + 1) (2 ^ 64 - 1)) ⌝ }
+    {
+        self.cases = more(self.cases);
+        self.first = first_of(self.differ, self.first, self.cases);
+        self.differ = more(self.differ);
+        self
+    }
+
+    // With one case more.
+    pub fn counted(self, step: Step) -> Self {
+        match step {
+            Step::End => self.closed(),
+            Step::Agrees => self.agreed(),
+            Step::Differs => self.differed(),
+        }
+    }
+}
+
+// Writes "NAME CASES ok", or "NAME CASES differ: N, the first is K", and the end of the line.
+pub fn report(name: &[u8], t: Tally) {
+    io::write_all(STDOUT_FILENO, name);
+    io::write_all(STDOUT_FILENO, b" ");
+    io::print_decimal(STDOUT_FILENO, t.cases);
+    if t.differ == 0 {
+        io::write_all(STDOUT_FILENO, b" ok\n");
+    } else {
+        io::write_all(STDOUT_FILENO, b" differ: ");
+        io::print_decimal(STDOUT_FILENO, t.differ);
+        io::write_all(STDOUT_FILENO, b", the first is ");
+        io::print_decimal(STDOUT_FILENO, t.first);
+        io::write_all(STDOUT_FILENO, b"\n");
+    }
+}

@@ -1,0 +1,47 @@
+-- `run::run` meets its contract: 3 first, then the refusals of the text, and a sheet is worked.
+use mathlib.Core.Path.{sym, ap, _∙_}
+use Rattle.meaning.specs.Run.{verdict, leftBy, runLent}
+use Rattle.run.proofs.Steps.{call-short, call-text, call-sheet, call-refused}
+use borrow.Author.Needs.{needs}
+use Rattle.run.proofs.run.Statement.{statement}
+use Rattle.run.proofs.run.Tie as tie
+
+returns : tie.Need-returns
+unfolding runLent
+returns c = let e = call-short (c .before .before .args .text .now) (c .before .before .args .lent .now) (c .if1 .taken) in (sym (ap verdict e), sym (ap (leftBy (c .before .before .args .lent .now)) e))
+
+judge-text-requires : tie.Need-judge-text-requires
+judge-text-requires c κs = search needs
+
+enum-known-n : tie.Need-enum-known-n
+enum-known-n c = search needs
+
+work-requires : tie.Need-work-requires
+work-requires c κs = (c .before .before .before .before .before .if1 .left, call-sheet (c .before .before .before .before .before .before .before .args .text .now) (c .before .before .before .before .before .before .before .args .lent .now) (c .before .before .before .before .before .if1 .left) (c .before .before .before .before .judge-text .ensures .1) (c .before .before .n .given .1))
+
+enum-known-k : tie.Need-enum-known-k
+enum-known-k c = search needs
+
+same-length : tie.Need-same-length
+same-length c = search needs
+
+returns-2 : tie.Need-returns-2
+unfolding runLent
+returns-2 c = let e = call-text (c .before .before .before .before .before .before .before .before .before .args .text .now) (c .before .before .before .before .before .before .before .before .before .args .lent .now) (c .before .before .before .before .before .before .before .if1 .left) in (c .before .work .ensures .0 ∙ sym (ap verdict e), c .before .work .ensures .1 ∙ sym (ap (leftBy (c .before .before .before .before .before .before .before .before .before .args .lent .now)) e))
+
+returns-3 : tie.Need-returns-3
+unfolding runLent
+returns-3 c = let e = call-refused (c .before .before .before .before .before .before .args .text .now) (c .before .before .before .before .before .before .args .lent .now) (c .before .before .before .before .if1 .left) (c .before .before .before .judge-text .ensures .1) (c .before .k .given .1) in (sym (ap verdict e), sym (ap (leftBy (c .before .before .before .before .before .before .args .lent .now)) e))
+
+pub run-spec : {M : Type 1} → statement M
+run-spec =
+    tie.close
+    (tie.spec
+    returns
+    judge-text-requires
+    enum-known-n
+    work-requires
+    enum-known-k
+    same-length
+    returns-2
+    returns-3)

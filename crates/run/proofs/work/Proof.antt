@@ -1,0 +1,114 @@
+-- `run::work` meets its contract. The invariant: the run is what is left to work on the state, and the slice is as lent.
+use mathlib.Core.Path.{_≡_, refl, sym, ap, _∙_}
+use Prim.Native.Nat.{_-_}
+use borrow.Author.Needs.{needs}
+use native.Mathlib.Omega.{arith}
+use lib.ListN.{length, take}
+use Rattle.meaning.specs.Lists.{over}
+use Rattle.meaning.specs.Sheet.{registers}
+use Rattle.meaning.specs.Run.{verdict, leftBy}
+use Rattle.sheet.proofs.Feeds.{end-lt}
+use Rattle.run.proofs.Steps.{Running, running-start, running-next, running-stop, running-done, stop-size, written-is, copied-is}
+use Rattle.run.proofs.work.Statement.{statement}
+use Rattle.run.proofs.work.Tie as tie
+
+abbrev Inv-loop : tie.InvT-loop
+Inv-loop text lent₀ count given state₀ n₀ at₀ lent state n at = Running text lent₀ state count n at × (lent ≡ lent₀) × (given ≡ take registers lent₀)
+
+abbrev μ-loop : tie.MeasureT-loop
+μ-loop text lent₀ count given state₀ n₀ at₀ lent state n at = length text - at
+
+slice-aggregate-copy-front : tie.Need-slice-aggregate-copy-front Inv-loop μ-loop
+slice-aggregate-copy-front c = refl
+
+copy-front-requires : tie.Need-copy-front-requires Inv-loop μ-loop
+copy-front-requires c κs = (c .before .before .before .pre .0, omega arith)
+
+loop-holds : tie.Need-loop-holds Inv-loop μ-loop
+loop-holds c = (running-start (c .before .before .before .before .before .args .text .now) (c .before .before .before .before .before .args .lent .now) (c .before .before .before .before .before .args .count) (c .before .before .before .before .before .pre .1), refl, c .before .copy-front .ensures ∙ copied-is (c .before .before .before .before .before .args .lent .now) _ refl (c .before .before .before .before .before .pre .0))
+
+line-end-requires : tie.Need-line-end-requires Inv-loop μ-loop
+line-end-requires c κs = search needs
+
+add-n : tie.Need-add-n Inv-loop μ-loop
+add-n c = omega (arith, c .before .before .loop .inv .0 .walk .counted)
+
+sub-run-line : tie.Need-sub-run-line Inv-loop μ-loop
+sub-run-line c = omega (arith, c .line-end .ensures)
+
+part-run-line-start : tie.Need-part-run-line-start Inv-loop μ-loop
+part-run-line-start c = omega (arith, c .line-end .ensures)
+
+part-run-line-end : tie.Need-part-run-line-end Inv-loop μ-loop
+part-run-line-end c = omega (arith, end-lt (c .before .before .before .before .before .before .before .before .args .text .now) (c .before .before .loop .at) (c .line-end .ensures) (c .before .loop-test .taken) (c .before .before .loop .inv .0 .walk .ended))
+
+run-line-requires : tie.Need-run-line-requires Inv-loop μ-loop
+run-line-requires c κs = search needs
+
+enum-known-step : tie.Need-enum-known-step Inv-loop μ-loop
+enum-known-step c = search needs
+
+slice-aggregate-copy-front-2 : tie.Need-slice-aggregate-copy-front-2 Inv-loop μ-loop
+slice-aggregate-copy-front-2 c = sym (stop-size (c .before .before .before .before .before .before .before .before .before .before .before .before .before .before .before .before .before .args .text .now) (c .before .before .before .before .before .before .before .before .before .before .before .before .before .before .before .before .before .args .lent .now) (c .before .before .before .before .before .before .before .before .before .before .before .loop .state) (c .before .before .before .before .before .before .before .before .before .before .before .before .before .before .before .before .before .args .count) (c .before .before .before .before .before .before .before .before .before .before .before .loop .n) (c .before .before .before .before .before .before .before .before .before .before .before .loop .at) (c .before .before .before .before .before .before .before .before .before .before .before .loop .inv .0) (c .before .before .before .before .before .before .before .before .before .before .loop-test .taken) (c .before .before .before .before .before .before .before .before .before .line-end .ensures) (c .before .before .before .before .before .before .before .before .before .before .before .loop .inv .2) (c .before .before .before .before .before .run-line .ensures) (c .before .before .before .step .given .1))
+
+copy-front-requires-2 : tie.Need-copy-front-requires-2 Inv-loop μ-loop
+copy-front-requires-2 c κs = (omega (arith, stop-size (c .before .before .before .before .before .before .before .before .before .before .before .before .before .before .before .before .before .args .text .now) (c .before .before .before .before .before .before .before .before .before .before .before .before .before .before .before .before .before .args .lent .now) (c .before .before .before .before .before .before .before .before .before .before .before .loop .state) (c .before .before .before .before .before .before .before .before .before .before .before .before .before .before .before .before .before .args .count) (c .before .before .before .before .before .before .before .before .before .before .before .loop .n) (c .before .before .before .before .before .before .before .before .before .before .before .loop .at) (c .before .before .before .before .before .before .before .before .before .before .before .loop .inv .0) (c .before .before .before .before .before .before .before .before .before .before .loop-test .taken) (c .before .before .before .before .before .before .before .before .before .line-end .ensures) (c .before .before .before .before .before .before .before .before .before .before .before .loop .inv .2) (c .before .before .before .before .before .run-line .ensures) (c .before .before .before .step .given .1)), omega (arith, ap length (c .before .before .before .before .before .before .before .before .before .before .before .loop .inv .1), c .before .before .before .before .before .before .before .before .before .before .before .before .before .before .before .before .before .pre .0))
+
+same-length : tie.Need-same-length Inv-loop μ-loop
+same-length c = c .before .copy-front2 .kept .0 ∙ ap length (c .before .before .before .before .before .before .before .before .before .before .before .before .before .loop .inv .1)
+
+returns : tie.Need-returns Inv-loop μ-loop
+returns c = let e = running-stop (c .before .before .before .before .before .before .before .before .before .before .before .before .before .before .before .before .before .before .before .args .text .now) (c .before .before .before .before .before .before .before .before .before .before .before .before .before .before .before .before .before .before .before .args .lent .now) (c .before .before .before .before .before .before .before .before .before .before .before .before .before .loop .state) (c .before .before .before .before .before .before .before .before .before .before .before .before .before .before .before .before .before .before .before .args .count) (c .before .before .before .before .before .before .before .before .before .before .before .before .before .loop .n) (c .before .before .before .before .before .before .before .before .before .before .before .before .before .loop .at) (c .before .before .before .before .before .before .before .before .before .before .before .before .before .loop .inv .0) (c .before .before .before .before .before .before .before .before .before .before .before .before .loop-test .taken) (c .before .before .before .before .before .before .before .before .before .before .before .line-end .ensures) (c .before .before .before .before .before .before .before .before .before .before .before .before .before .loop .inv .2) (c .before .before .before .before .before .before .before .run-line .ensures) (c .before .before .before .before .before .step .given .1) in (sym (ap verdict e), c .before .copy-front2 .ensures ∙ written-is _ _ (stop-size (c .before .before .before .before .before .before .before .before .before .before .before .before .before .before .before .before .before .before .before .args .text .now) (c .before .before .before .before .before .before .before .before .before .before .before .before .before .before .before .before .before .before .before .args .lent .now) (c .before .before .before .before .before .before .before .before .before .before .before .before .before .loop .state) (c .before .before .before .before .before .before .before .before .before .before .before .before .before .before .before .before .before .before .before .args .count) (c .before .before .before .before .before .before .before .before .before .before .before .before .before .loop .n) (c .before .before .before .before .before .before .before .before .before .before .before .before .before .loop .at) (c .before .before .before .before .before .before .before .before .before .before .before .before .before .loop .inv .0) (c .before .before .before .before .before .before .before .before .before .before .before .before .loop-test .taken) (c .before .before .before .before .before .before .before .before .before .before .before .line-end .ensures) (c .before .before .before .before .before .before .before .before .before .before .before .before .before .loop .inv .2) (c .before .before .before .before .before .before .before .run-line .ensures) (c .before .before .before .before .before .step .given .1)) ∙ ap (over _) (c .before .before .before .before .before .before .before .before .before .before .before .before .before .loop .inv .1) ∙ sym (ap (leftBy (c .before .before .before .before .before .before .before .before .before .before .before .before .before .before .before .before .before .before .before .args .lent .now)) e))
+
+enum-told : tie.Need-enum-told Inv-loop μ-loop
+enum-told c = search needs
+
+add-at : tie.Need-add-at Inv-loop μ-loop
+add-at c = omega (arith, end-lt (c .before .before .before .before .before .before .before .before .before .before .before .before .before .before .args .text .now) (c .before .before .before .before .before .before .before .before .loop .at) (c .before .before .before .before .before .before .line-end .ensures) (c .before .before .before .before .before .before .before .loop-test .taken) (c .before .before .before .before .before .before .before .before .loop .inv .0 .walk .ended))
+
+loop-less : tie.Need-loop-less Inv-loop μ-loop
+loop-less c = omega (arith, end-lt (c .before .before .before .before .before .before .before .before .before .before .before .before .before .before .args .text .now) (c .before .before .before .before .before .before .before .before .loop .at) (c .before .before .before .before .before .before .line-end .ensures) (c .before .before .before .before .before .before .before .loop-test .taken) (c .before .before .before .before .before .before .before .before .loop .inv .0 .walk .ended), c .before .before .before .before .before .before .line-end .ensures)
+
+loop-again : tie.Need-loop-again Inv-loop μ-loop
+loop-again c = (running-next (c .before .before .before .before .before .before .before .before .before .before .before .before .before .before .args .text .now) (c .before .before .before .before .before .before .before .before .before .before .before .before .before .before .args .lent .now) (c .before .before .before .before .before .before .before .before .loop .state) (c .before .before .before .before .before .before .before .before .before .before .before .before .before .before .args .count) (c .before .before .before .before .before .before .before .before .loop .n) (c .before .before .before .before .before .before .before .before .loop .at) (c .before .before .before .before .before .before .before .before .loop .inv .0) (c .before .before .before .before .before .before .before .loop-test .taken) (c .before .before .before .before .before .before .line-end .ensures) (c .before .before .before .before .before .before .before .before .loop .inv .2) (c .before .before .run-line .ensures) (c .enum-told .given .1), c .before .before .before .before .before .before .before .before .loop .inv .1, c .before .before .before .before .before .before .before .before .loop .inv .2)
+
+slice-aggregate-copy-front-3 : tie.Need-slice-aggregate-copy-front-3 Inv-loop μ-loop
+slice-aggregate-copy-front-3 c = search needs
+
+copy-front-requires-3 : tie.Need-copy-front-requires-3 Inv-loop μ-loop
+copy-front-requires-3 c κs = (omega (arith, c .before .before .before .loop .inv .0 .size), omega (arith, ap length (c .before .before .before .loop .inv .1), c .before .before .before .before .before .before .before .before .before .pre .0))
+
+same-length-2 : tie.Need-same-length-2 Inv-loop μ-loop
+same-length-2 c = search needs
+
+returns-2 : tie.Need-returns-2 Inv-loop μ-loop
+returns-2 c = let e = running-done (c .before .before .before .before .before .before .before .before .before .before .before .args .text .now) (c .before .before .before .before .before .before .before .before .before .before .before .args .lent .now) (c .before .before .before .before .before .loop .state) (c .before .before .before .before .before .before .before .before .before .before .before .args .count) (c .before .before .before .before .before .loop .n) (c .before .before .before .before .before .loop .at) (c .before .before .before .before .before .loop .inv .0) (omega arith) in (sym (ap verdict e), c .before .copy-front3 .ensures ∙ written-is _ _ (c .before .before .before .before .before .loop .inv .0 .size) ∙ ap (over _) (c .before .before .before .before .before .loop .inv .1) ∙ sym (ap (leftBy (c .before .before .before .before .before .before .before .before .before .before .before .args .lent .now)) e))
+
+pub work-spec : {M : Type 1} → statement M
+work-spec =
+    tie.close
+    (tie.spec
+    Inv-loop
+    μ-loop
+    slice-aggregate-copy-front
+    copy-front-requires
+    loop-holds
+    line-end-requires
+    add-n
+    sub-run-line
+    part-run-line-start
+    part-run-line-end
+    run-line-requires
+    enum-known-step
+    slice-aggregate-copy-front-2
+    copy-front-requires-2
+    same-length
+    returns
+    enum-told
+    add-at
+    loop-less
+    loop-again
+    slice-aggregate-copy-front-3
+    copy-front-requires-3
+    same-length-2
+    returns-2)

@@ -1,0 +1,43 @@
+-- Demand 3 for the calls: the contracts say what the calls answer and leave, and `demand3-calls` of `meaning` says that of it which is asked. Assumes nothing.
+use lib.IntN.{ℤ, pos}
+use lib.ListN.{getD}
+use mathlib.Core.Path.{_≡_, sym, ap, subst, _∙_}
+use mathlib.Core.List.{List}
+use Prim.Native.Nat.{ℕ}
+use Rattle.meaning.specs.Outcome.{done, stopped}
+use Rattle.meaning.specs.NumberIntervals.{_∈_}
+use Rattle.meaning.specs.Sheet.{Line}
+use Rattle.meaning.specs.Text.{cut}
+use Rattle.meaning.specs.Run.{Judged, refused, worked}
+use Rattle.meaning.specs.Check.{Bands, shipLimit, checkText, checkCall, setIn}
+use Rattle.meaning.specs.Demand3Calls.{CallsSafeAt}
+use Rattle.meaning.proofs.Integers.{never}
+use Rattle.meaning.proofs.Demand3.{demand3 as safety}
+use Rattle.meaning.proofs.Demand3Calls.{demand3-calls}
+use Rattle.sheet_check.specs.Answer.{answerFor, isPass}
+use Rattle.sheet_check.specs.Demand3.{SafeAfter, Demand3}
+use Rattle.sheet_check.proofs.Walking.{trouble-no-pass, long-call}
+use Rattle.sheet_check.specs.declared.Answer.the-variants as answer
+
+-- a call that passes is done with every line
+pass-done : (x : Judged Bands) {n : ℕ} → answer.Pass n ≡ answerFor x → (B : Bands) × (x ≡ worked n (done B))
+pass-done (refused k l) e = never (ap isPass e ∙ trouble-no-pass k l)
+pass-done (worked m (done B)) {n} e = let d : m ≡ n = cc in (B, ap (λ (i : ℕ). worked i (done B)) d)
+pass-done (worked m (stopped k l B)) e = never (ap isPass e ∙ trouble-no-pass k l)
+
+after : (lent : List ℤ) (t : List ℕ) (ls : List Line) (m : ℕ) {B : Bands} → CallsSafeAt lent t ls m → checkText shipLimit (cut t m) ≡ worked m (done B) → SafeAfter lent t ls m
+after lent t ls m a p = record {
+  state = a .state;
+  reaches = a .reaches;
+  passes = λ sets work r sets′ work′ h c. c .answer-is ∙ ap answerFor (long-call (cut t m) sets work (h .sets-long) (h .work-long) ∙ p);
+  members = λ sets work r sets′ work′ h c q b. subst (λ (l : List ℤ). getD (a .state) q (pos 0) ∈ setIn l q) (sym (c .sets-left)) (a .members sets work h q b);
+  runs = λ v lent′ c. c .verdict-is ∙ a .runs;
+  leaves = λ v lent′ c q b. ap (λ (l : List ℤ). getD l q (pos 0)) (c .lent-left) ∙ a .leaves q b;
+}
+
+pub demand3 : Demand3
+demand3 t sets work sets′ work′ lent n h k c i =
+    let p = pass-done (checkCall t sets work) (c .answer-is) in
+    let s = safety shipLimit t n (p .0) lent (sym (long-call t sets work (h .sets-long) (h .work-long)) ∙ p .1) i in
+    let q = demand3-calls t sets work lent n h k (sym (c .verdict-is)) i in
+    record { lines = q .lines; reads = q .reads; count = q .count; each = λ m b. after lent t (q .lines) m (q .each m b) (s .each m b .passes); whole = q .whole }

@@ -1,0 +1,50 @@
+-- Demand 3 for the calls, with their contracts put in: what `check` and `run` answer and leave in their slices, whatever else these held. A call is what its contract says of it:
+-- `Called` for the check, `Ran` for the run. The theorem is `demand3` of proofs/Demand3.antt. Assumes nothing.
+use lib.IntN.{ℤ, pos}
+use lib.ListN.{getD, length}
+use mathlib.Core.Path.{_≡_}
+use mathlib.Core.List.{List}
+use Prim.Native.Nat.{ℕ, _<_, _≤_}
+use Rattle.meaning.specs.Outcome.{done}
+use Rattle.meaning.specs.NumberIntervals.{_∈_}
+use Rattle.meaning.specs.Sheet.{registers, Line}
+use Rattle.meaning.specs.Text.{cut, sheet, read}
+use Rattle.meaning.specs.Run.{verdict, runCall, runLent, stateAfter, LentInside}
+use Rattle.meaning.specs.Check.{setIn}
+use Rattle.meaning.specs.Demand3Calls.{fulfilled, Enough}
+use Rattle.run.specs.Answer.{verdictOf as runVerdict}
+use Rattle.run.specs.declared.Answer.{Answer as RunAnswer}
+use Rattle.sheet_check.specs.Answer.{Called}
+use Rattle.sheet_check.specs.declared.Answer.{Answer}
+use Rattle.sheet_check.specs.declared.Answer.the-variants as answer
+
+-- a call of the run: what its answer says, and what it leaves in its slice
+pub record Ran (t : List ℕ) (lent : List ℤ) (r : RunAnswer) (lent′ : List ℤ) : Type 0 where
+  pub verdict-is : runVerdict r ≡ verdict (runCall t lent)
+  pub lent-left : lent′ ≡ runLent t lent
+
+-- after line m of t, which reads as ls
+pub record SafeAfter (lent : List ℤ) (t : List ℕ) (ls : List Line) (m : ℕ) : Type 0 where
+  pub state : List ℤ
+  pub reaches : stateAfter lent ls m ≡ done state
+  -- the check passes the cut sheet, and in the numbers that it leaves each register's number is in the register's set
+  pub passes : (sets work : List ℤ) (r : Answer) (sets′ work′ : List ℤ) → Enough sets work → Called (cut t m) sets work r sets′ work′ → r ≡ answer.Pass m
+  pub members : (sets work : List ℤ) (r : Answer) (sets′ work′ : List ℤ) → Enough sets work → Called (cut t m) sets work r sets′ work′
+      → (q : ℕ) → q < registers → getD state q (pos 0) ∈ setIn sets′ q
+  -- the run of the cut sheet is done, and leaves that state
+  pub runs : (r : RunAnswer) (lent′ : List ℤ) → Ran (cut t m) lent r lent′ → runVerdict r ≡ fulfilled m
+  pub leaves : (r : RunAnswer) (lent′ : List ℤ) → Ran (cut t m) lent r lent′ → (q : ℕ) → q < registers → getD lent′ q (pos 0) ≡ getD state q (pos 0)
+
+pub record SafeCalls (lent : List ℤ) (t : List ℕ) (n : ℕ) : Type 0 where
+  pub lines : List Line
+  pub reads : read t ≡ sheet lines
+  pub count : length lines ≡ n
+  -- before the first line, after each line, and so after the last one, where the cut sheet is the sheet
+  pub each : (m : ℕ) → m ≤ n → SafeAfter lent t lines m
+  pub whole : cut t n ≡ t
+
+-- for every text that a call of the check passes, and every lent list inside its `in` lines
+abbrev pub Demand3 : Type 0
+Demand3 =
+    (t : List ℕ) (sets work sets′ work′ lent : List ℤ) (n : ℕ) → Enough sets work → registers ≤ length lent → Called t sets work (answer.Pass n) sets′ work′ → LentInside lent t
+    → SafeCalls lent t n

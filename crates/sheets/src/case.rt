@@ -1,0 +1,97 @@
+// A stored sheet: 32 bytes that say how long its parts are and what is expected, then the text, the numbers lent to the run, the numbers that it leaves,
+// the numbers of the check's sets that are not 0 with their places, and the listing.
+use replay::fill;
+use replay::fill_front;
+use replay::pair;
+use replay::wide;
+
+// What the sets hold when they are lent to the check, and how many numbers it needs.
+pub const OLD_SETS: i64 = -3333333;
+
+const SETS: usize = 528;
+
+// What a call is to answer: 0 a success, 1 a finding or a stop, 2 a refusal; its number; its line, or the line count of a success.
+pub struct Verdict {
+    pub kind: u8,
+    pub number: u8,
+    pub line: usize,
+}
+
+// Lengths of the text, of the lent numbers, of the check's two slices and of the listing; how many numbers of the sets are stored; whether the work is
+// cleared; what reading, run and check answer; and a line number with the start and end of its bytes.
+pub struct Case {
+    pub text: usize,
+    pub lent: usize,
+    pub cleared: bool,
+    pub judged: Verdict,
+    pub ran: Verdict,
+    pub checked: Verdict,
+    pub sets: usize,
+    pub work: usize,
+    pub stored: usize,
+    pub listed: usize,
+    pub line: usize,
+    pub start: usize,
+    pub end: usize,
+}
+
+fn verdict_in(kind: u8, number: u8, low: u8, high: u8) -> Verdict {
+    Verdict {
+        kind,
+        number,
+        line: pair(low, high),
+    }
+}
+
+pub fn case_in(b: &[u8; 32]) -> Case {
+    Case {
+        text: pair(b[0], b[1]),
+        lent: wide(b[2]),
+        cleared: b[3] == 1,
+        judged: verdict_in(b[4], b[5], b[6], b[7]),
+        ran: verdict_in(b[8], b[9], b[10], b[11]),
+        checked: verdict_in(b[12], b[13], b[14], b[15]),
+        sets: pair(b[16], b[17]),
+        work: pair(b[18], b[19]),
+        stored: pair(b[20], b[21]),
+        listed: pair(b[22], b[23]),
+        line: pair(b[24], b[25]),
+        start: pair(b[26], b[27]),
+        end: pair(b[28], b[29]),
+    }
+}
+
+// Whether an answer of this kind, number and line is the one expected.
+pub fn is_expected(e: Verdict, kind: u8, number: u8, line: usize) -> bool {
+    e.kind == kind && e.number == number && e.line == line
+}
+
+// One stored number of the sets, at its place.
+fn read_place(fd: i32, s: &mut [i64]) {
+    let mut b = [0u8; 2];
+    io::read_full(fd, &mut b);
+    let place = replay::pair(b[0], b[1]);
+    let value = replay::read_number(fd);
+    if place < s.len() {
+        s[place] = value;
+    }
+}
+
+fn read_places(fd: i32, s: &mut [i64], n: usize) {
+    let mut i = 0;
+    while i < n {
+        read_place(fd, s);
+        i += 1;
+    }
+}
+
+// The sets as the check is to leave them: as lent, or after a pass the 528 numbers, of which those that are not 0 are stored.
+pub fn read_sets(fd: i32, c: Case, want: &mut [i64]) -> bool {
+    fill(want, OLD_SETS);
+    if c.checked.kind != 0 {
+        return true;
+    }
+    let is_long = fill_front(want, SETS, 0);
+    read_places(fd, want, c.stored);
+    is_long
+}

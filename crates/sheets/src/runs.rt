@@ -1,0 +1,13 @@
+// The run: its answer, and the numbers that it leaves.
+use crate::case::Case;
+use crate::case::is_expected;
+use run::Answer;
+
+pub fn agrees(c: Case, text: &[u8], lent: &mut [i64], left: &[i64]) -> bool {
+    let is_answer = match run::run(text, lent) {
+        Answer::Done(n) => is_expected(c.ran, 0, 0, n),
+        Answer::Stopped(k, l) => is_expected(c.ran, 1, k, l),
+        Answer::Refused(k, l) => is_expected(c.ran, 2, k, l),
+    };
+    is_answer && replay::same(lent, left)
+}

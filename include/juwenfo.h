@@ -1,0 +1,131 @@
+/* Juwenfo for C: the functions of libexports.a (`rt staticlib exports`; the Rattle side is crates/exports).
+ *
+ * Numbers are counts of thousandths. A set of numbers is the ends of its intervals in a slice, start and end in turn, in order; it is normal if
+ * every start is at most its end and at least one number is missing between neighbours. Its flag stands beside it. A length counts elements.
+ *
+ * Every call is total: it has no precondition on the numbers, bytes and lengths that it is given, and refuses by number instead.
+ * What the caller sees to, for every call: each pointer is good for the length that follows it (NULL only with length 0), and what is behind a
+ * pointer without const overlaps nothing else that is lent to the same call and is used by nobody else until it returns. docs/CALLERS.md says more.
+ *
+ * Numbers of refusals and findings:
+ *    1  a set of odd length, or not normal                         6  a line outside the grammar, or LO past HI
+ *    2  a set of more than 32 numbers                              7  a literal beyond MIN..MAX
+ *    3  a lent slice shorter than its call needs                   8  an `in` after another kind, or a second one for a register
+ *    4  an answer longer than out                                  9  a form's set has over 16 intervals (check)
+ *    5  over 256 lines, a line over 120 bytes, last LF missing
+ *   20  a divisor may be 0 (check), or is 0 (run)     21  a hold is broken     22  a lent number outside its `in` (run)
+ */
+#ifndef JUWENFO_H
+#define JUWENFO_H
+#include <stdbool.h>
+#include <stddef.h>
+#include <stdint.h>
+#ifdef __cplusplus
+extern "C" {
+#endif
+
+#define JUWENFO_ONE 1000    /* the number 1, in thousandths */
+#define JUWENFO_SETS 528    /* numbers that the check needs for its sets: for each of the 16 registers its count of intervals, then 32 for their ends */
+#define JUWENFO_SLOT 33     /* the numbers of one register: register R's begin at JUWENFO_SLOT * R */
+#define JUWENFO_WORK 8192   /* numbers of work that the check needs; the most that any set call needs */
+#define JUWENFO_LENT 16     /* numbers that the run needs, one a register */
+#define JUWENFO_TEXT 30976  /* bytes of the longest text that is not refused with 5 */
+
+/* ---- point operations */
+
+/* A number, or none: then `there` is false and `number` 0. */
+typedef struct {
+    int64_t number;
+    bool there;
+} juwenfo_maybe;
+
+int64_t juwenfo_number_neg(int64_t x);                   /* wraps: that of MIN is MIN */
+int64_t juwenfo_number_abs(int64_t x);                   /* wraps: that of MIN is MIN */
+int64_t juwenfo_number_add(int64_t x, int64_t y);        /* wraps */
+int64_t juwenfo_number_sub(int64_t x, int64_t y);        /* wraps */
+int64_t juwenfo_number_mul(int64_t x, int64_t y);        /* wraps the product, then divides by 1000 */
+juwenfo_maybe juwenfo_number_div(int64_t x, int64_t y);  /* wraps 1000 times x, then divides, wrapping; none if y is 0 */
+juwenfo_maybe juwenfo_number_rem(int64_t x, int64_t y);  /* with the sign of x; none if y is 0 */
+juwenfo_maybe juwenfo_number_next(int64_t x);            /* none after MAX */
+juwenfo_maybe juwenfo_number_prev(int64_t x);            /* none before MIN */
+bool juwenfo_number_as_bool(int64_t x);                  /* x is not 0 */
+int64_t juwenfo_number_not(int64_t x);                   /* from here on: 1000 if it is so, else 0 */
+int64_t juwenfo_number_and(int64_t x, int64_t y);
+int64_t juwenfo_number_or(int64_t x, int64_t y);
+int64_t juwenfo_number_le(int64_t x, int64_t y);
+int64_t juwenfo_number_lt(int64_t x, int64_t y);
+int64_t juwenfo_number_ne(int64_t x, int64_t y);
+
+/* ---- set operations
+ *
+ * Judged in this order: left 2, left 1, right 2, right 1, 3 (work is too short), 4 (out is too short).
+ * After 1, 2 and 3 every slice is as lent. After 4 out is as lent. After success the first `count` numbers of out hold the answer, and the rest is
+ * as lent. After success and after 4 the first NEED numbers of work are 0, and the rest is as lent. left and right are never written.
+ * NEED is 2 * K * n * m for n and m intervals, with m = 1 where there is no right set.
+ */
+
+/* number 0: `count` numbers were written to out, and the answer's flag. Else the refusal's number, count 0 and flag false. */
+typedef struct {
+    size_t count;
+    uint8_t number;
+    bool flag;
+} juwenfo_answer;
+
+/* K = 2. The flag of the answer is the left set's. neg and abs hold just the results of the members. */
+juwenfo_answer juwenfo_set_neg(const int64_t *left, size_t left_len, bool flag, int64_t *work, size_t work_len, int64_t *out, size_t out_len);
+juwenfo_answer juwenfo_set_abs(const int64_t *left, size_t left_len, bool flag, int64_t *work, size_t work_len, int64_t *out, size_t out_len);
+
+/* K = 2. The flag of the answer is the left set's. add and sub hold just the results of the members; mul holds at least these. */
+juwenfo_answer juwenfo_set_add(const int64_t *left, size_t left_len, bool flag, const int64_t *right, size_t right_len, int64_t *work, size_t work_len, int64_t *out, size_t out_len);
+juwenfo_answer juwenfo_set_sub(const int64_t *left, size_t left_len, bool flag, const int64_t *right, size_t right_len, int64_t *work, size_t work_len, int64_t *out, size_t out_len);
+juwenfo_answer juwenfo_set_mul(const int64_t *left, size_t left_len, bool flag, const int64_t *right, size_t right_len, int64_t *work, size_t work_len, int64_t *out, size_t out_len);
+
+/* K = 12 for div, 16 for rem. The flag of the answer is set too where a left set with members meets a right set that holds 0. */
+juwenfo_answer juwenfo_set_div(const int64_t *left, size_t left_len, bool flag, const int64_t *right, size_t right_len, int64_t *work, size_t work_len, int64_t *out, size_t out_len);
+juwenfo_answer juwenfo_set_rem(const int64_t *left, size_t left_len, bool flag, const int64_t *right, size_t right_len, int64_t *work, size_t work_len, int64_t *out, size_t out_len);
+
+/* No work is needed, so never 3; the flag of the answer is false. not, and, or, le, lt and ne give a set of 0 and 1000: at most 4 numbers. */
+juwenfo_answer juwenfo_set_not(const int64_t *left, size_t left_len, int64_t *out, size_t out_len);
+juwenfo_answer juwenfo_set_and(const int64_t *left, size_t left_len, const int64_t *right, size_t right_len, int64_t *out, size_t out_len);
+juwenfo_answer juwenfo_set_or(const int64_t *left, size_t left_len, const int64_t *right, size_t right_len, int64_t *out, size_t out_len);
+juwenfo_answer juwenfo_set_le(const int64_t *left, size_t left_len, const int64_t *right, size_t right_len, int64_t *out, size_t out_len);
+juwenfo_answer juwenfo_set_lt(const int64_t *left, size_t left_len, const int64_t *right, size_t right_len, int64_t *out, size_t out_len);
+juwenfo_answer juwenfo_set_ne(const int64_t *left, size_t left_len, const int64_t *right, size_t right_len, int64_t *out, size_t out_len);
+juwenfo_answer juwenfo_set_union(const int64_t *left, size_t left_len, const int64_t *right, size_t right_len, int64_t *out, size_t out_len);     /* just the members of either set */
+juwenfo_answer juwenfo_set_intersect(const int64_t *left, size_t left_len, const int64_t *right, size_t right_len, int64_t *out, size_t out_len); /* just the members of both sets */
+
+/* ---- sheets */
+
+/* Where a line stands in its text. */
+typedef struct {
+    size_t start;
+    size_t length;
+} juwenfo_part;
+
+/* Line `n` of any bytes, counted from 1, without its LF (byte 10). Line 0, and a line that no LF ends, are empty. Refuses nothing. */
+juwenfo_part juwenfo_line(const uint8_t *text, size_t text_len, size_t n);
+
+/* number 0: fine, `count` lines, line 0. Else the number of the refusal or finding, its line (0 for 3 and 5), and count 0. */
+typedef struct {
+    size_t line;
+    size_t count;
+    uint8_t number;
+} juwenfo_verdict;
+
+/* Reads a sheet without working it: 5 over the whole text, then line by line 6, 7, LO past HI (6), 8. */
+juwenfo_verdict juwenfo_judge(const uint8_t *text, size_t text_len);
+
+/* Checks a sheet: 3 (sets shorter than JUWENFO_SETS or work than JUWENFO_WORK), the refusals of juwenfo_judge, then the lines in order: 9, 20, 21.
+ * number 0 is a pass: the first JUWENFO_SETS numbers of sets hold the set of each register after the last line, unused ones 0.
+ * Otherwise sets is as lent. After a pass, 9, 20 and 21 the first JUWENFO_WORK numbers of work are 0; after 3 and 5 to 8 work is as lent. */
+juwenfo_verdict juwenfo_check(const uint8_t *text, size_t text_len, int64_t *sets, size_t sets_len, int64_t *work, size_t work_len);
+
+/* Runs a sheet on the numbers lent for its `in` lines: 3 (fewer than JUWENFO_LENT), the refusals of juwenfo_judge, then the lines in order: 20, 21, 22.
+ * number 0: done, and the first JUWENFO_LENT numbers are the registers after the last line. After 20, 21 or 22 they are the registers before that
+ * line. After a refusal all are as lent. */
+juwenfo_verdict juwenfo_run(const uint8_t *text, size_t text_len, int64_t *lent, size_t lent_len);
+
+#ifdef __cplusplus
+}
+#endif
+#endif

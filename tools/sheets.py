@@ -1,0 +1,368 @@
+#!/usr/bin/env python3
+"""Writes crates/sheets/data/sheets: small sheets, good and damaged, with what reading, run, check, listing and line finder give.
+
+    sheets.py DATA
+
+The answers are those of reading.py. The format is in DATA/README.md. The same call writes the same file.
+"""
+import os
+import random
+import struct
+import sys
+
+import reading as rules
+from reading import MIN, MAX
+
+SEED = 16
+ZEROS = [0] * 16
+CASES = []
+
+
+def add(text, lent=None, sets=528, work=8192):
+    text = text.encode('latin-1') if isinstance(text, str) else text
+    CASES.append((text, list(ZEROS if lent is None else lent), sets, work))
+
+
+def first_and_later(line, lent=None):
+    """The line alone, and behind a good one."""
+    add(line + '\n', lent)
+    add('(put 1 1)\n' + line + '\n', lent)
+
+
+def lent_at(**registers):
+    got = list(ZEROS)
+    for name, z in registers.items(): got[int(name[1:])] = z
+    return got
+
+
+# ---- 5
+
+def texts():
+    good = '(put 0 1)\n'
+    add('')
+    add('\n')
+    add('\n\n')
+    add(good)
+    add(good[:-1])
+    add(good * 2 + good[:-1])
+    add('x')
+    add(good * 256)
+    add(good * 257)
+    add(good * 256 + 'x')
+    add(good * 255 + 'x\n')
+    add('x\n' * 257)
+    add('x\n' * 256)
+    for n in (119, 120, 121):
+        add(line_of(n) + '\n')
+        add(good + line_of(n) + '\n')
+        add(line_of(n) + '\r\n')
+        add('x\n' + line_of(n) + '\n')
+        add('x' * n + '\n')
+        add('(put 0 ' + '9' * (n - 8) + ')\n')
+    add(line_of(121))
+    add((line_of(120) + '\n') * 3)
+    add((line_of(120) + '\n') * 256)
+    add('(put 0 1)\r\n')
+    add('(put 0 1)\n\r')
+    add('(put 0 1)\n\n(put 1 2)\n')
+    add('\n(put 0 1)\n')
+    add('(put 0 1)\n(put 1 2)\n\n')
+
+
+def line_of(n):
+    """A good line of n bytes."""
+    for total in range(8, 100):
+        for k in (5, 6):
+            shape = '(put 0 ' + '(add ' * (k - 1) + '%s' + ' %s)' * (k - 1) + ')'
+            digits = n - (len(shape) - 2 * k)
+            if k <= digits <= 15 * k:
+                sizes = [digits // k + (1 if i < digits % k else 0) for i in range(k)]
+                return shape % tuple('1' + '0' * (s - 1) for s in sizes)
+
+
+# ---- 6
+
+DAMAGED = [
+    'x', ' ', '()', '(put)', '(put 0)', '(put 0 )', '(put  0 1)', '(put 0  1)', ' (put 0 1)', '(put 0 1) ', '( put 0 1)', '(put 0 1 )', '(put 0 1))', '((put 0 1))',
+    '(put 0 1)(put 1 1)', '(put 0 1) (put 1 1)', '(Put 0 1)', '(PUT 0 1)', '(put\t0 1)', '(put 0\t1)', '(put 0 1)\t', '(put 0 1)\r', '(put 0 1)\0', '\0', '(put 0 \0)',
+    '(put 0 1\0)', '(put 0 \x801)', '\xff(put 0 1)', '(put 0 1)\xff', '(put 0 \xb1)', 'put 0 1', '(put 0 1', 'put 0 1)', '(put 0 (1))', '(put 0 (reg))', '(put 0 (reg ))',
+    '(put 0 (reg 0)', '(put 0 (reg 0 ))', '(put 0 (reg  0))', '(put 0 (reg (reg 0)))', '(put 0 (reg 16))', '(put 0 (reg 00))', '(put 0 (reg -0))', '(put 0 (reg 1.0))',
+    '(put 16 1)', '(put 00 1)', '(put 01 1)', '(put -0 1)', '(put 1.0 1)', '(put 100 1)', '(put ' + '9' * 40 + ' 1)', '(put x 1)', '(put (reg 0) 1)',
+    '(put 0 00)', '(put 0 01)', '(put 0 -01)', '(put 0 00.5)', '(put 0 1.)', '(put 0 .5)', '(put 0 -.5)', '(put 0 -)', '(put 0 +1)', '(put 0 --1)', '(put 0 1.0000)', '(put 0 1e3)',
+    '(put 0 1.-5)', '(put 0 1..5)', '(put 0 1,5)', '(put 0 0x1)', '(put 0 -0.0000)', '(put 0 1 2)', '(put 0 1. )', '(put 0 (neg))', '(put 0 (neg ))', '(put 0 (neg 1 2))',
+    '(put 0 (neg  1))', '(put 0 (neg 1) )', '(put 0 (add 1))', '(put 0 (add 1 2 3))', '(put 0 (add 1  2))', '(put 0 (add 1 2)', '(put 0 (add (neg 1) (neg 2))', '(put 0 (sum 1 2))',
+    '(put 0 (xor 1 2))', '(put 0 (eq 1 2))', '(put 0 (ge 1 2))', '(put 0 (le 1))', '(put 0 (not 1 1))', '(put 0 (or 1))', '(put 0 (negg 1))', '(put 0 (ne 1))', '(put 0 (leq 1 2))',
+    '(put 0 (neg(reg 0)))', '(put 0 (add(reg 0) 1))', '(put 0 (add (reg 0)(reg 1)))', '(in 0 1)', '(in 0 1 2 3)', '(in 0 (neg 1) 2)', '(in 0 1 (reg 0))', '(in 16 0 1)', '(in 0 0 1',
+    '(in  0 0 1)', '(in 0 2 1)', '(in 0 0.001 0)', '(in 0 01 2)', '(in 0 1 2.)', '(hold 0)', '(hold 0 1)', '(hold 0 2 1)', '(hold 0 0 -0.001)', '(hold 16 0 1)', '(hold 0 0 (reg 0))',
+    '(when 1 (put 0 1))', '(hol 0 0 1)', '(holds 0 0 1)', '(inn 0 0 1)', '(i 0 0 1)', '(reg 0)', '(add 1 2)', '1', '-', '(', ')', '(put 0 1)x', '; put', '#', '(put 0 1) ;',
+]
+
+
+def damaged():
+    for line in DAMAGED: first_and_later(line)
+    # 6 comes before 7 over the whole line
+    first_and_later('(put 0 ' + '9' * 20 + '.1234)')
+    first_and_later('(put 0 ' + '9' * 20)
+    first_and_later('(put 0 (add ' + '9' * 20 + ' 01))')
+    first_and_later('(put 16 ' + '9' * 20 + ')')
+
+
+# ---- brackets, registers, literals
+
+def depths():
+    for n in (6, 7):
+        first_and_later('(put 0 ' + '(neg ' * n + '(reg 0)' + ')' * n + ')')
+        first_and_later('(put 0 ' + '(neg ' * (n + 1) + '2' + ')' * (n + 1) + ')')
+    add('(put 0 ' + '(add ' * 6 + '(reg 0)' + ' 1)' * 6 + ')\n')
+    add('(put 0 ' + '(add 1 ' * 6 + '(reg 0)' + ')' * 6 + ')\n')
+    add('(put 0 ' + '(add 1 ' * 7 + '(reg 0)' + ')' * 7 + ')\n')
+    add('(put 0 (add ' + '(neg ' * 6 + '1' + ')' * 6 + ' (reg 1)))\n')
+    add('(put 0 (add (reg 1) ' + '(neg ' * 7 + '1' + ')' * 7 + '))\n')
+    for r in range(16): add('(in %d 0 %d)\n(put %d (add (reg %d) 1))\n' % (r, r + 1, 15 - r, r), lent_at(**{'r%d' % r: 500}))
+    add(''.join('(in %d %d %d)\n' % (r, -r, r) for r in range(16)), [100 * r - 700 for r in range(16)])
+    add('(hold 15 0 0)\n')
+    add('(put 0 (reg 15))\n')
+
+
+LIMITS = ['9223372036854775', '9223372036854775.8', '9223372036854775.80', '9223372036854775.807']
+BEYOND = ['9223372036854776', '9223372036854775.9', '9223372036854775.81', '9223372036854775.808', '10000000000000000', '9' * 25, '9' * 100, '18446744073709551.616']
+GOOD = ['0', '-0', '0.0', '-0.000', '1', '1.0', '1.000', '0.5', '-0.5', '0.05', '0.005', '-0.001', '10', '100', '999999.999', '-12.34']
+
+
+def literals():
+    for z in LIMITS + GOOD: add('(put 0 %s)\n' % z)
+    for z in LIMITS: add('(put 0 -%s)\n' % z)
+    add('(put 0 -9223372036854775.808)\n')
+    for z in BEYOND: first_and_later('(put 0 %s)' % z)
+    for z in BEYOND[:3] + ['9223372036854775.809'] + BEYOND[4:]: first_and_later('(put 0 -%s)' % z)
+    for kind in ('in', 'hold'):
+        first_and_later('(%s 0 9223372036854776 1)' % kind)
+        first_and_later('(%s 0 0 9223372036854776)' % kind)
+        add('(%s 0 -9223372036854775.808 9223372036854775.807)\n' % kind)
+        add('(%s 0 0 0)\n' % kind)
+    first_and_later('(put 0 (neg (add 1 (mul 9223372036854775.808 2))))')
+
+
+# ---- order of 6, 7, 8
+
+def orders():
+    add('(put 0 9999999999999999)\nx\n')
+    add('x\n(put 0 9999999999999999)\n')
+    add('(put 0 1)\n(in 0 2 1)\n')
+    add('(put 0 1)\n(in 0 1 2)\n')
+    add('(put 0 1)\n(in 1 1 2)\n')
+    add('(hold 0 0 1)\n(in 1 1 2)\n')
+    add('(in 0 1 2)\n(in 0 1 2)\n')
+    add('(in 0 1 2)\n(in 1 1 2)\n(in 0 1 2)\n')
+    add('(in 0 1 2)\n(put 1 1)\n(in 1 1 2)\n')
+    add('(in 0 1 2)\n(hold 0 1 2)\n(in 0 1 2)\n')
+    add('(put 0 1)\n(in 1 1 2)\nx\n')
+    add('(put 0 1)\nx\n(in 1 1 2)\n')
+    add('(put 0 1)\n(in 1 9999999999999999 2)\n')
+    add('(in 0 9999999999999999 1)\n')
+    add('(in 0 1 2)\n(in 0 2 1)\n')
+    add('(in 0 1 2)\n(in 0 1 9999999999999999)\n')
+    add('(in 0 1 2)\n(in 0 1 2)\n(put 0 (div 1 0))\n')
+    add('(put 0 (div 1 0))\n(in 0 1 2)\n')
+    add('(put 0 (div 1 0))\nx\n')
+
+
+# ---- every operation
+
+def operations():
+    ones, twos = ('neg', 'abs', 'not'), ('add', 'sub', 'mul', 'div', 'rem', 'le', 'lt', 'ne', 'and', 'or')
+    ends = [('-1.5', '2.5', 700), ('-9223372036854775.808', '-9223372036854775.8', MIN + 3), ('9223372036854775.8', '9223372036854775.807', MAX - 2), ('3', '3', 3000)]
+    for op in ones:
+        for lo, hi, z in ends: add('(in 0 %s %s)\n(put 1 (%s (reg 0)))\n' % (lo, hi, op), lent_at(r0=z))
+        add('(put 1 (%s 0))\n' % op)
+    for op in twos:
+        for lo, hi, z in ends: add('(in 0 %s %s)\n(in 2 2 3)\n(put 1 (%s (reg 0) (reg 2)))\n(put 3 (%s 1 (reg 0)))\n' % (lo, hi, op, op), lent_at(r0=z, r2=2500))
+        add('(put 1 (%s 7 -2))\n(put 2 (%s -7 4))\n' % (op, op))
+        add('(put 1 (%s 5 5))\n(put 2 (%s (reg 1) (reg 0)))\n' % (op, op))
+    add('(put 0 (mul -0.001 0.001))\n(put 1 (div 7 -0.002))\n(put 2 (rem -0.007 0.004))\n')
+    add('(put 0 (div 1152921504606846.976 -0.001))\n')
+    add('(put 0 (rem -9223372036854775.808 -0.001))\n(put 1 (neg -9223372036854775.808))\n(put 2 (abs -9223372036854775.808))\n')
+
+
+# ---- 20, 21, 22, the state before
+
+def stops():
+    ins = '(in 0 0 9)\n(in 1 0 1)\n'
+    add(ins, lent_at(r0=5000, r1=9000))
+    add(ins, lent_at(r0=9001, r1=500))
+    add(ins, lent_at(r0=-1, r1=500))
+    add(ins, lent_at(r0=9000, r1=1000))
+    add(ins, lent_at(r0=0, r1=0))
+    add('(in 3 -1 1)\n', lent_at(r3=1001))
+    add('(in 3 -1 1)\n', [77] * 16)
+    add('(put 2 4)\n(hold 2 0 3)\n', [5] * 16)
+    add('(put 2 4)\n(hold 2 4 4)\n', [5] * 16)
+    add('(hold 0 0 0)\n(hold 0 1 2)\n')
+    add('(in 0 0 9)\n(put 1 (add (reg 0) 1))\n(hold 1 0 5)\n(put 2 3)\n', lent_at(r0=6000))
+    add('(in 0 0 9)\n(put 1 (add (reg 0) 1))\n(hold 1 0 5)\n(put 2 3)\n', lent_at(r0=4000))
+    add('(put 0 7)\n(put 1 (div (reg 0) (reg 2)))\n', [1] * 16)
+    add('(put 0 7)\n(put 1 (rem (reg 0) (reg 2)))\n', [1] * 16)
+    add('(in 0 -1 1)\n(put 1 (div 6 (reg 0)))\n', lent_at(r0=500))
+    add('(in 0 -1 1)\n(put 1 (div 6 (reg 0)))\n', lent_at(r0=0))
+    add('(in 0 1 2)\n(put 1 (div 6 (reg 0)))\n(hold 1 3 6)\n', lent_at(r0=1500))
+    add('(put 0 (and 0 (div 1 0)))\n')
+    add('(put 0 (or 1 (rem 1 0)))\n')
+    add('(put 0 (div (div 1 0) 0))\n')
+    add('(put 0 (div 0 0))\n')
+    add('(put 0 1)\n(put 0 (add (reg 0) 1))\n(put 0 (add (reg 0) (reg 0)))\n(hold 0 4 4)\n')
+    add('(put 0 1)\n(hold 0 1 1)\n(hold 0 0 0.999)\n(put 0 (div 1 0))\n')
+    add('(put 0 1)\n(put 1 (div 1 0))\n(hold 0 5 6)\n')
+    add('(in 0 0 9)\n(put 0 2)\n(hold 0 2 2)\n', lent_at(r0=8000))
+    add('(in 0 0 9)\n(hold 0 0 9)\n(hold 0 0 8.999)\n', lent_at(r0=9000))
+
+
+# ---- crowded sets
+
+def bits(n, step, to=1):
+    """Lines that leave a set of 2^n numbers, `step` apart, in register `to`; r0 is an `in` of [-1,1]."""
+    lines = ['(in 0 -1 1)', '(put %d (mul %d (le (reg 0) 0)))' % (to, step)]
+    for i in range(1, n): lines.append('(put %d (add (reg %d) (mul %d (le (reg 0) 0))))' % (to, to, step * 2**i))
+    return '\n'.join(lines) + '\n'
+
+
+def crowds():
+    for n in (1, 2, 3, 4, 5): add(bits(n, 1))
+    sixteen = bits(4, 2)
+    add(sixteen + '(put 2 (neg (reg 1)))\n(put 3 (abs (reg 2)))\n')
+    add(sixteen + '(put 2 (add (reg 1) (le (reg 0) 0)))\n')
+    add(sixteen + '(put 2 (add (le (reg 0) 0) (reg 1)))\n')
+    add(sixteen + '(put 2 (not (add (reg 1) (le (reg 0) 0))))\n')
+    add(sixteen + '(put 2 (not (reg 1)))\n(put 3 (and (reg 1) (reg 2)))\n')
+    crowded, zero = '(add (reg 1) (le (reg 0) 0))', '(div 1 (reg 0))'
+    add(sixteen + '(put 2 (add %s %s))\n' % (zero, crowded))
+    add(sixteen + '(put 2 (add %s %s))\n' % (crowded, zero))
+    add(sixteen + '(put 2 (le %s %s))\n' % (crowded, crowded))
+    # one form that is both: 9 comes before 20
+    add(sixteen + '(put 2 (div (reg 1) (mul 0.001 (le (reg 0) 0))))\n')
+    add(sixteen + '(put 2 (div (add (reg 1) 1) (sub (mul 3 (le (reg 0) 0)) (le (reg 0) -0.5))))\n')
+    add(sixteen + '(put 2 (rem (reg 1) (mul 7 (le (reg 0) 0))))\n')
+    # neg of 16 intervals that gives 17
+    low = bits(4, 2).replace('(put 1 (mul 2 ', '(put 1 (add -9223372036854775.808 (mul 2 ', 1)
+    low = low.replace('(put 1 (add -9223372036854775.808 (mul 2 (le (reg 0) 0)))', '(put 1 (add -9223372036854775.808 (mul 2 (le (reg 0) 0))))', 1)
+    add(low)
+    add(low + '(put 2 (neg (reg 1)))\n')
+    wide = '(in 0 -1 1)\n(in 4 -9223372036854775.808 -9223372036854775.8)\n' + low.split('\n', 1)[1].replace('-9223372036854775.808', '(reg 4)')
+    add(wide)
+    add(wide + '(put 2 (neg (reg 1)))\n')
+    add(wide + '(put 2 (abs (reg 1)))\n')
+
+
+# ---- lent slices
+
+def slices():
+    good, late = '(in 0 0 9)\n(put 1 (add (reg 0) 1))\n', '(in 0 0 9)\n(hold 0 1 2)\n'
+    for text in (good, late, 'x\n', 'x', ''):
+        for lent, sets, work in ((15, 528, 8192), (0, 528, 8192), (16, 527, 8192), (16, 528, 8191), (16, 0, 0), (20, 540, 8200)):
+            add(text, [3000 + i for i in range(lent)], sets, work)
+
+
+# ---- wrap-around and nested forms
+
+def wraps():
+    top = '(in 0 9223372036854775 9223372036854775.807)\n'
+    add(top + '(put 1 (add (reg 0) 1))\n', lent_at(r0=MAX))
+    add(top + '(put 1 (add (reg 0) 1))\n(hold 1 0 9223372036854775.807)\n', lent_at(r0=MAX - 900))
+    add(top + '(put 1 (mul (reg 0) 2))\n', lent_at(r0=MAX - 5))
+    add(top + '(put 1 (sub -2 (reg 0)))\n', lent_at(r0=MAX - 5))
+    add(top + '(put 1 (div (reg 0) 3))\n', lent_at(r0=MAX - 5))
+    add('(in 0 0 9223372036854.775)\n(put 1 (mul (reg 0) (reg 0)))\n', lent_at(r0=4 * 10**15))
+    add('(in 0 -100 100)\n(put 1 (mul (sub (reg 0) 3) (add (abs (reg 0)) 0.5)))\n(put 2 (rem (reg 1) 7))\n', lent_at(r0=-99999))
+    add('(in 0 -100 100)\n(put 1 (div (sub (reg 0) 3) (add (abs (reg 0)) 0.5)))\n(hold 1 -250 250)\n', lent_at(r0=-99999))
+    add('(in 0 0 5)\n(in 1 0 5)\n(put 2 (and (le (reg 0) (reg 1)) (not (lt (reg 0) 2))))\n(put 3 (or (reg 2) (ne (reg 0) (reg 1))))\n', lent_at(r0=3000, r1=3000))
+    add('(in 0 1 5)\n(put 1 (div (reg 0) (reg 0)))\n(hold 1 0.2 5)\n', lent_at(r0=3000))
+    add('(in 0 -5 5)\n(put 0 (abs (reg 0)))\n(put 0 (add (reg 0) 1))\n(put 0 (div 10 (reg 0)))\n(hold 0 0 10)\n', lent_at(r0=-4000))
+
+
+# ---- random sheets
+
+def literal(r):
+    if r.random() < .7: return r.choice(('0', '1', '2', '2.5', '-3', '0.001', '-0.5', '4', '100', '-7.25', '10'))
+    z = r.choice((-1, 1)) * r.randrange(2**r.randint(1, 63))
+    return '%s%d.%03d' % ('-' if z < 0 else '', abs(z) // 1000, abs(z) % 1000)
+
+
+def form(r, depth):
+    k = r.random()
+    if depth == 0 or k < .25: return literal(r)
+    if k < .55: return '(reg %d)' % r.randrange(4)
+    if k < .68: return '(%s %s)' % (r.choice(('neg', 'abs', 'not')), form(r, depth - 1))
+    op = r.choice(('add', 'sub', 'mul', 'div', 'rem', 'le', 'lt', 'ne', 'and', 'or'))
+    return '(%s %s %s)' % (op, form(r, depth - 1), form(r, depth - 1) if op not in ('div', 'rem') or r.random() < .4 else r.choice(('3', '-2', '0.007', '1000')))
+
+
+def bounds(r):
+    a, b = sorted((literal(r), literal(r)), key=lambda s: rules.literal(s.encode(), 0)[0])
+    return a + ' ' + b
+
+
+def rambles():
+    r = random.Random(SEED)
+    for _ in range(90):
+        lines = ['(in %d %s)' % (i, bounds(r)) for i in range(r.randrange(4))]
+        for _ in range(r.randrange(1, 7)):
+            lines.append('(put %d %s)' % (r.randrange(4), form(r, r.choice((1, 2, 3, 5)))) if r.random() < .85 else '(hold %d %s)' % (r.randrange(4), bounds(r)))
+        text = ''.join(l + '\n' for l in lines if len(l) <= 120)
+        lent = [r.randrange(-5000, 5000) for _ in range(16)]
+        for line in rules.judge(text.encode()):
+            if line[0] == 'in' and r.random() < .9: lent[line[1]] = r.randint(line[2], line[3])
+        add(text, lent)
+        if r.random() < .3:
+            broken = bytearray(text.encode())
+            broken[r.randrange(len(broken))] = r.choice(b' ()-.01\n\ra\xff')
+            add(bytes(broken), lent)
+
+
+# ---- writing
+
+KINDS = {'done': 0, 'pass': 0, 'stop': 1, 'refused': 2}
+
+
+def verdict(v):
+    """kind, number, line or line count"""
+    return (KINDS[v[0]], 0, v[1]) if len(v) == 2 else (KINDS[v[0]], v[1], v[2])
+
+
+def record(i, text, lent, sets, work):
+    read = rules.judge(text)
+    judged = ('refused',) + read if isinstance(read, tuple) else ('done', len(read))
+    ran, left = rules.run(text, lent)
+    checked, sets_after, work_after = rules.check(text, [-3] * sets, [-4] * work)
+    cleared = 8192 if checked[0] != 'refused' or checked[1] == 9 else 0
+    assert work_after == [0] * cleared + [-4] * (work - cleared) and (checked[0] == 'pass' or sets_after == [-3] * sets)
+    pairs = [(n, z) for n, z in enumerate(sets_after[:528]) if z != 0] if checked[0] == 'pass' else []
+    listed = rules.listing(text)
+    line = i % 5
+    part = rules.line_part(text, line)
+    start = 0 if not part else sum(len(l) + 1 for l in text.split(b'\n')[:line - 1])
+    assert text[start:start + len(part)] == part
+    head = struct.pack('<H2B', len(text), len(lent), cleared // 8192)
+    for v in (judged, ran, checked): head += struct.pack('<2BH', *verdict(v))
+    head += struct.pack('<8H', sets, work, len(pairs), len(listed), line, start, start + len(part), 0)
+    numbers = lent + left
+    return head + text + struct.pack('<%dq' % len(numbers), *numbers) + b''.join(struct.pack('<Hq', *p) for p in pairs) + listed
+
+
+def main():
+    own = '(in 0 -1 2)\n(put 1 (mul (reg 0) 2.5))\n(hold 1 -3 5)\n'
+    add(own, lent_at(r0=1500))
+    for part in (texts, damaged, depths, literals, orders, operations, stops, crowds, slices, wraps, rambles): part()
+    seen = {}
+    for text, lent, sets, work in CASES:
+        v = rules.check(text, [0] * sets, [0] * work)[0]
+        seen[v[:2] if len(v) == 3 else v[0]] = seen.get(v[:2] if len(v) == 3 else v[0], 0) + 1
+    data = b''.join(record(i, *case) for i, case in enumerate(CASES))
+    with open(os.path.join(sys.argv[1], 'sheets'), 'wb') as f: f.write(data)
+    print(len(CASES), 'sheets,', len(data), 'bytes;', ', '.join('%s %d' % (k if isinstance(k, str) else '%s %d' % k, n) for k, n in sorted(seen.items(), key=str)))
+    stops_seen = {}
+    for text, lent, sets, work in CASES:
+        v = rules.run(text, lent)[0]
+        stops_seen[v[:2] if len(v) == 3 else v[0]] = stops_seen.get(v[:2] if len(v) == 3 else v[0], 0) + 1
+    print('runs:', ', '.join('%s %d' % (k if isinstance(k, str) else '%s %d' % k, n) for k, n in sorted(stops_seen.items(), key=str)))
+
+
+if __name__ == '__main__': main()

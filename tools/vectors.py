@@ -1,0 +1,218 @@
+#!/usr/bin/env python3
+"""Writes crates/vectors/data: cases of the set calls and of the point operations, with the answers of the original Rust.
+
+    vectors.py ORACLE DATA
+
+ORACLE is a program that runs the original's operators: a line `OP FLAG ends.. / ends..` gives `FLAG ends..`, and a line `.OP A B` a number or `none`.
+DATA is the folder to write. The format is in DATA/README.md. The same call writes the same files.
+"""
+import os
+import random
+import struct
+import subprocess
+import sys
+
+import reading as rules
+from reading import MIN, MAX
+
+SEED = 64
+ONE_SET = ['neg', 'abs', 'not']
+TWO_SETS = ['add', 'sub', 'mul', 'div', 'rem', 'and', 'or', 'le', 'lt', 'ne', 'union', 'intersect']
+FLAGGED = ['neg', 'abs', 'add', 'sub', 'mul', 'div', 'rem']
+POINTS = ['neg', 'abs', 'not', 'add', 'sub', 'mul', 'div', 'rem', 'and', 'or', 'le', 'lt', 'ne', 'next', 'prev']
+CORNERS = (MIN, MAX, 0, 1000, -1000, 2**62, -2**62, 2**31, 2**32, -2**32, 3037000499, -3037000500, 9223372036854775, -9223372036854775,
+           18446744073709551, -18446744073709551, 27670116110564327, -27670116110564327, 36893488147419103, 2**61, -2**61, 10**16, -10**16,
+           6917529027641081855, MAX // 3, MIN // 3)
+EDGES = sorted({min(MAX, max(MIN, c + d)) for c in CORNERS for d in range(-2, 3)})
+NEAR = [z for z in EDGES if abs(z) < 5 or z < MIN + 5 or z > MAX - 5]
+
+
+# ---- random sets
+
+def number(r):
+    k = r.random()
+    if k < .4: return r.choice(NEAR)
+    if k < .65: return r.choice(EDGES)
+    if k < .8: return r.randint(-20, 20)
+    return r.choice((-1, 1)) * r.randrange(2**r.randint(1, 63))
+
+
+def interval(r):
+    a = number(r)
+    k = r.random()
+    b = a if k < .3 else number(r) if k < .7 else min(MAX, a + r.randrange(2**r.randint(0, 62)))
+    return (min(a, b), max(a, b))
+
+
+def some(r, n):
+    """A normal set of n intervals."""
+    while n <= 2 and r.random() < .7:
+        got = rules.join([interval(r) for _ in range(n)])
+        if len(got) == n: return got
+    wide = r.random() < .5
+    ends = []
+    for z in sorted({number(r) if wide else r.randint(-40 * n, 40 * n) for _ in range(30 * n)} | {10 * i for i in range(2 * n)}):
+        if not ends or ends[-1] + 1 < z: ends.append(z)
+    at = sorted(r.sample(ends, 2 * n))
+    return [(at[i], at[i + 1] if r.random() < .6 else at[i]) for i in range(0, 2 * n, 2)]
+
+
+# ---- the named differences of document 01
+
+def named(op, left, right):
+    """Some pair is under a named difference."""
+    if op == 'lt': return True
+    if op == 'abs': return any(s < 0 < e or (s, e) == (MIN, MIN) for s, e in left)
+    if op not in ('mul', 'div'): return False
+    return any(named_pair(op, l, r) for l in left for r in right)
+
+
+def named_pair(op, l, r):
+    if op == 'div' and r == (0, 0): return False
+    ends = [a * b for a in l for b in r] if op == 'mul' else [1000 * l[0], 1000 * l[1]]
+    p, q = min(ends), max(ends)
+    if q - p >= 2**64 - 1: return op == 'div' and q - p < 1000 * (2**64 - 1)
+    return rules.window(p) != rules.window(q) and rules.window(p) != 0 and rules.window(q) != 0
+
+
+LEAST = {
+    'abs': [([(-1, 1)], []), ([(MIN, MIN)], [])],
+    'lt': [([(0, 0)], [(0, 0)]), ([(0, 1)], [(1, 1)])],
+    'le': [([(0, 1)], [(0, 0)])],
+    'mul': [([(MAX, MAX)], [(3, 4)]), ([(MAX, MAX)], [(3, 5)]), ([(6917529027641081855, 6917529027641082856)], [(4, 4)])],
+    'div': [([(27670116110564327, 27670116110564328)], [(1, 1)]), ([(0, 18446744073709552)], [(1, 1)]), ([(-10**16, 10**16)], [(1000, 1000)])],
+}
+MARKED_VALUES = {
+    'neg': [([(MIN, -1)], [])],
+    'abs': [([(-5, 3)], [])],
+    'add': [([(MAX - 2, MAX)], [(1, 1)]), ([(MIN, -1)], [(0, MAX)]), ([(MIN, 0)], [(0, MAX)])],
+    'div': [([(0, 0)], [(-1, 1)])],
+    'rem': [([(7, 7)], [(0, 0)]), ([(MIN, MIN)], [(-1, -1)]), ([(7, 9)], [(4, 4)]), ([(MIN, MAX)], [(MIN, MAX)])],
+    'lt': [([(3, 3)], [(3, 3)])],
+}
+
+
+# ---- the sets of one operation
+
+def arguments(op, r):
+    """Pairs of normal sets."""
+    got = list(MARKED_VALUES.get(op, [])) + list(LEAST.get(op, []))
+    one = op in ONE_SET
+    for _ in range(200): got.append(([edge(r)], [edge(r)]))
+    sizes = [0, 1, 2, 3, 4, 5, 8, 12, 15, 16]
+    for n in range(17): got.append((some(r, n), some(r, r.choice((1, 1, 2)))))
+    for n in range(17): got.append((some(r, 1), some(r, n)))
+    for n in sizes: got.append((some(r, n), []))
+    for n in sizes: got.append(([], some(r, n)))
+    for _ in range(150): got.append((some(r, r.choice((1, 1, 2, 3))), some(r, r.choice((1, 1, 2, 3)))))
+    for n, m in ((16, 16), (15, 16), (7, 9), (16, 3), (4, 16)): got.append((some(r, n), some(r, m)))
+    for d in (0, MIN, -1): got.append(([edge(r)], rules.join([(d, d), edge(r)])))
+    if op in ('mul', 'div', 'abs', 'lt'):
+        while sum(named(op, a, b) for a, b in got) < 60:
+            a, b = some(r, 1), some(r, 1)
+            if named(op, a, b): got.append((a, b))
+    return [(a, [] if one else b) for a, b in got]
+
+
+def edge(r):
+    a, b = r.choice(NEAR if r.random() < .7 else EDGES), r.choice(NEAR if r.random() < .7 else EDGES)
+    return (min(a, b), max(a, b))
+
+
+# ---- slices as they are lent, refused ones too
+
+def damaged(r):
+    """Slices that are refused, with their numbers."""
+    long = rules.flat(some(r, 16))
+    return [([1], 1), ([1, 2, 3], 1), (long[:31], 1), ([5, 1], 1), ([1, 2, 3, 4], 1), ([1, 2, 2, 4], 1), ([3, 4, 1, 2], 1), ([1, 5, 2, 3], 1),
+            ([MIN, MAX, MAX, MAX], 1), ([0, MIN], 1), (long[:30] + [7, 6], 1), (long + [1], 2), (long + [1, 2], 2), ([0] * 33, 2), ([0] * 34, 2), ([1, 0] * 20, 2)]
+
+
+def need(op, left, right):
+    return 2 * rules.K.get(op, 0) * (len(left) // 2) * (1 if op in ONE_SET else len(right) // 2)
+
+
+def lent_cases(op, r):
+    """left, flag, right, work length, out length."""
+    got = []
+    for i, (a, b) in enumerate(arguments(op, r)):
+        left, right = rules.flat(a), rules.flat(b)
+        size = 2 * len(rules.value(op, a, False, b)[0])
+        flag = i % 2 == 1 and op in FLAGGED
+        got.append((left, flag, right, need(op, left, right) + r.choice((0, 0, 1, 3)), size + r.choice((0, 0, 1, 4))))
+        if i < 40 and size > 0: got.append((left, flag, right, need(op, left, right), r.choice((0, size - 1))))
+        if i < 40 and need(op, left, right) > 0: got.append((left, flag, right, need(op, left, right) - 1, r.choice((0, size - 1, size))))
+    good = rules.flat(some(r, 2))
+    for bad, _ in damaged(r):
+        got.append((bad, op in FLAGGED, good if op not in ONE_SET else [], r.choice((0, 500)), r.choice((0, 8))))
+        if op in ONE_SET: continue
+        got.append((good, False, bad, r.choice((0, 500)), r.choice((0, 8))))
+        got.append((bad, False, r.choice(damaged(r))[0], 0, 0))
+    return [(l, f, x, w if op in rules.K else 0, o) for l, f, x, w, o in got]
+
+
+# ---- writing
+
+class Oracle:
+    def __init__(self, path):
+        self.path = path
+
+    def ask(self, lines):
+        done = subprocess.run([self.path], input=''.join(l + '\n' for l in lines), capture_output=True, text=True, check=True)
+        got = done.stdout.split('\n')[:-1]
+        assert len(got) == len(lines)
+        return got
+
+
+def request(op, left, flag, right):
+    words = [op, str(int(flag))] + [str(z) for z in left]
+    return ' '.join(words if op in ONE_SET else words + ['/'] + [str(z) for z in right])
+
+
+def set_file(op, oracle, r):
+    cases = lent_cases(op, r)
+    answers = oracle.ask([request(op, l, f, x) if rules.judge_set(l) == 0 and rules.judge_set(x) == 0 else '.neg 0' for l, f, x, w, o in cases])
+    out, marks, refused = [], 0, [0] * 5
+    for (left, flag, right, work, room), answer in zip(cases, answers):
+        number, count, flag_after, work_after, out_after = rules.set_call(op, left, flag, right, [-1] * work, [-2] * room)
+        mark = False
+        if number == 0:
+            words = [int(w) for w in answer.split()]
+            ends = words[1:] if op != 'le' else [z for i in sorted(rules.pairs(words[1:])) for z in i]
+            if (ends, words[0]) != (out_after[:count], int(flag_after)):
+                assert named(op, rules.pairs(left), rules.pairs(right)), (op, left, right, answer)
+                mark = True
+            mark = mark or words[1:] != out_after[:count]
+        marks += mark
+        refused[number] += 1
+        zeroed = need(op, left, right) if number in (0, 4) else 0
+        assert work_after == [0] * zeroed + [-1] * (work - zeroed) and out_after[count:] == [-2] * (room - count)
+        out.append(struct.pack('<6B4H2x', len(left), len(right), flag, number, flag_after, mark, count, work, room, zeroed))
+        out.append(struct.pack('<%dq' % (len(left) + len(right) + count), *left, *right, *out_after[:count]))
+    print('%-9s %4d cases, %3d marked, refused 1 to 4: %s, %d bytes' % (op, len(cases), marks, refused[1:], sum(map(len, out))))
+    return b''.join(out)
+
+
+def point_file(op, oracle, r):
+    ones = sorted({z for z in EDGES} | {number(r) for _ in range(40)}) if op in ('neg', 'abs', 'not', 'next', 'prev') else None
+    pairs = [(z, 0) for z in ones] if ones else [(a, b) for a in NEAR for b in (MIN, -1, 0, 1, 1000, MAX)] + [(number(r), number(r)) for _ in range(80)]
+    rule = {**rules.POINT1, **rules.POINT2, 'next': rules.p_next, 'prev': rules.p_prev}[op]
+    asked = oracle.ask(['.%s %d %d' % (op, a, b) for a, b in pairs])
+    out = []
+    for (a, b), answer in zip(pairs, asked):
+        value = rule(a) if ones else rule(a, b)
+        if op not in ('and', 'or', 'le', 'lt', 'ne'): assert answer == ('none' if value is None else str(value)), (op, a, b, answer)
+        out.append(struct.pack('<4q', a, b, 0 if value is None else 1, value or 0))
+    print('%-9s %4d point cases' % (op, len(pairs)))
+    return b''.join(out)
+
+
+def main():
+    oracle, folder = Oracle(sys.argv[1]), sys.argv[2]
+    for op in ONE_SET + TWO_SETS:
+        with open(os.path.join(folder, op), 'wb') as f: f.write(set_file(op, oracle, random.Random('%d %s' % (SEED, op))))
+    for op in POINTS:
+        with open(os.path.join(folder, 'point_' + op), 'wb') as f: f.write(point_file(op, oracle, random.Random('%d point %s' % (SEED, op))))
+
+
+if __name__ == '__main__': main()
