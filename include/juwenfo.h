@@ -30,6 +30,7 @@ extern "C" {
 #define JUWENFO_WORK 8192   /* numbers of work that the check needs; the most that any set call needs */
 #define JUWENFO_LENT 16     /* numbers that the run needs, one a register */
 #define JUWENFO_TEXT 30976  /* bytes of the longest text that is not refused with 5 */
+#define JUWENFO_LISTING 11081 /* bytes of the longest listing: an out of so many is never too short */
 
 /* ---- point operations */
 
@@ -124,6 +125,16 @@ juwenfo_verdict juwenfo_check(const uint8_t *text, size_t text_len, int64_t *set
  * number 0: done, and the first JUWENFO_LENT numbers are the registers after the last line. After 20, 21 or 22 they are the registers before that
  * line. After a refusal all are as lent. */
 juwenfo_verdict juwenfo_run(const uint8_t *text, size_t text_len, int64_t *lent, size_t lent_len);
+
+/* fits: `count` bytes were written to out. Else the listing is longer than out, and count is 0. */
+typedef struct {
+    size_t count;
+    bool fits;
+} juwenfo_listed;
+
+/* The listing of any text, what the program prints for it: "pass N" and the sets of the registers with an `in` or a `put`, or "refused K L" or
+ * "stop K L"; each line ends with LF, and no byte 0 follows. Refuses nothing. The rest of out is as lent; all of it, if the listing does not fit. */
+juwenfo_listed juwenfo_listing(const uint8_t *text, size_t text_len, uint8_t *out, size_t out_len);
 
 #ifdef __cplusplus
 }

@@ -3,7 +3,7 @@
 #include <stdio.h>
 #include <string.h>
 
-_Static_assert(sizeof(juwenfo_maybe) == 16 && sizeof(juwenfo_answer) == 16 && sizeof(juwenfo_part) == 16 && sizeof(juwenfo_verdict) == 24, "sizes");
+_Static_assert(sizeof(juwenfo_maybe) == 16 && sizeof(juwenfo_answer) == 16 && sizeof(juwenfo_part) == 16 && sizeof(juwenfo_verdict) == 24 && sizeof(juwenfo_listed) == 16, "sizes");
 
 static int faults;
 
@@ -78,6 +78,12 @@ static void sheets(void) {
     lent[0] = 9000;
     v = juwenfo_run(text, n, lent, JUWENFO_LENT);
     expect(v.number == 22 && v.line == 1, "run, stopped");
+    const char *answer = "pass 3\nr0 -1000..2000\nr1 -2500..5000\n";
+    uint8_t list[JUWENFO_LISTING];
+    juwenfo_listed l = juwenfo_listing(text, n, list, JUWENFO_LISTING);
+    expect(l.fits && l.count == strlen(answer) && memcmp(list, answer, l.count) == 0, "listing");
+    l = juwenfo_listing(text, n, list, strlen(answer) - 1);
+    expect(!l.fits && l.count == 0, "listing, too long");
 }
 
 int main(void) {

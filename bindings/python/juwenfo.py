@@ -15,6 +15,7 @@ import os
 
 MIN, MAX, ONE = -(1 << 63), (1 << 63) - 1, 1000
 REGISTERS, SLOT, WORK = 16, 33, 8192
+LISTING = 11081  # bytes of the longest listing
 
 
 class Refused(Exception):
@@ -49,9 +50,14 @@ class _Verdict(ctypes.Structure):
     _fields_ = [("line", ctypes.c_size_t), ("count", ctypes.c_size_t), ("number", ctypes.c_uint8)]
 
 
+class _Listed(ctypes.Structure):
+    _fields_ = [("count", ctypes.c_size_t), ("fits", ctypes.c_bool)]
+
+
 _lib = ctypes.CDLL(os.environ.get("JUWENFO_LIBRARY") or os.path.join(os.path.dirname(os.path.abspath(__file__)), "libjuwenfo.so"))
 _SLICE = [ctypes.POINTER(ctypes.c_int64), ctypes.c_size_t]
 _TEXT = [ctypes.c_char_p, ctypes.c_size_t]
+_BYTES = [ctypes.POINTER(ctypes.c_char), ctypes.c_size_t]
 
 
 def _declared(name, arguments, result):
@@ -157,6 +163,7 @@ _line = _declared("line", _TEXT + [ctypes.c_size_t], _Part)
 _judge = _declared("judge", _TEXT, _Verdict)
 _check = _declared("check", _TEXT + _SLICE + _SLICE, _Verdict)
 _run = _declared("run", _TEXT + _SLICE, _Verdict)
+_listing = _declared("listing", _TEXT + _BYTES, _Listed)
 
 
 def _count(v):
@@ -189,3 +196,9 @@ def run(text, lent=()):
     numbers = _slice(list(lent) + [0] * (REGISTERS - len(lent)))
     _count(_run(text, len(text), numbers, len(numbers)))
     return numbers[:REGISTERS]
+
+
+def listing(text):
+    """The listing of any text, as the program prints it, in bytes: no text is refused."""
+    out = (ctypes.c_char * LISTING)()
+    return out[: _listing(text, len(text), out, len(out)).count]

@@ -43,6 +43,10 @@ class Calls(unittest.TestCase):
                 call()
             self.assertEqual((e.exception.number, e.exception.line), (number, line))
 
+    def test_listings(self):
+        self.assertEqual(j.listing(SHEET), b"pass 3\nr0 -1000..2000\nr1 -2500..5000\n")
+        self.assertEqual([j.listing(b""), j.listing(b"x"), j.listing(b"(hold 0 1 2)\n"), j.listing(b"\0\n")], [b"pass 0\n", b"refused 5 0\n", b"stop 21 1\n", b"refused 6 1\n"])
+
 
 if __name__ == "__main__":
     unittest.main()

@@ -14,6 +14,8 @@ pub const SLOT: usize = 33;
 pub const WORK: usize = 8192;
 /// Numbers that the run needs, one a register.
 pub const LENT: usize = 16;
+/// Bytes of the longest listing.
+pub const LISTING: usize = 11081;
 
 /// A refusal (3, 5 to 9) or a finding (20 to 22), and its line; the line is 0 for 3 and 5.
 #[derive(Clone, Copy, Debug, PartialEq, Eq)]
@@ -58,4 +60,11 @@ pub fn ends(sets: &[i64], register: usize) -> &[i64] {
 /// after the last line, after 20 to 22 those before that line, and after a refusal they are as lent.
 pub fn run(text: &[u8], lent: &mut [i64]) -> Result<usize, Trouble> {
     verdict(unsafe { sys::juwenfo_run(text.as_ptr(), text.len(), lent.as_mut_ptr(), lent.len()) })
+}
+
+/// The listing of any text at the front of `out`, as the program prints it: how many bytes it has. The rest of `out` is as lent. `None` if it is longer than
+/// `out`, and then all of `out` is as lent; [`LISTING`] bytes are always enough.
+pub fn listing(text: &[u8], out: &mut [u8]) -> Option<usize> {
+    let l = unsafe { sys::juwenfo_listing(text.as_ptr(), text.len(), out.as_mut_ptr(), out.len()) };
+    l.fits.then_some(l.count)
 }

@@ -31,6 +31,13 @@ pub struct Verdict {
     pub number: u8,
 }
 
+#[repr(C)]
+#[derive(Clone, Copy)]
+pub struct Listed {
+    pub count: usize,
+    pub fits: bool,
+}
+
 extern "C" {
     pub fn juwenfo_number_neg(x: i64) -> i64;
     pub fn juwenfo_number_abs(x: i64) -> i64;
@@ -69,4 +76,5 @@ extern "C" {
     pub fn juwenfo_judge(text: *const u8, len: usize) -> Verdict;
     pub fn juwenfo_check(text: *const u8, len: usize, sets: *mut i64, sn: usize, work: *mut i64, wn: usize) -> Verdict;
     pub fn juwenfo_run(text: *const u8, len: usize, lent: *mut i64, n: usize) -> Verdict;
+    pub fn juwenfo_listing(text: *const u8, len: usize, out: *mut u8, n: usize) -> Listed;
 }

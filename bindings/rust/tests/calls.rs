@@ -1,6 +1,6 @@
 //! Every call once with an answer that document 01 marks or that is plain to see, and every refusal.
 use juwenfo::set::{self, Refused, Written};
-use juwenfo::{check, ends, judge, line, number, run, Trouble, SETS, WORK};
+use juwenfo::{check, ends, judge, line, listing, number, run, Trouble, LISTING, SETS, WORK};
 
 const MIN: i64 = i64::MIN;
 const MAX: i64 = i64::MAX;
@@ -109,4 +109,21 @@ fn sheets() {
     assert_eq!(run(SHEET, &mut lent), Err(Trouble { number: 22, line: 1 }));
     assert_eq!((lent[0], lent[1]), (0, 0));
     assert_eq!(run(SHEET, &mut lent[..15]), Err(Trouble { number: 3, line: 0 }));
+}
+
+#[test]
+fn listings() {
+    let answer = b"pass 3\nr0 -1000..2000\nr1 -2500..5000\n";
+    let mut out = [7; LISTING];
+    assert_eq!(listing(SHEET, &mut out), Some(answer.len()));
+    assert_eq!(out[..answer.len()], answer[..]);
+    assert!(out[answer.len()..].iter().all(|&b| b == 7));
+    out.fill(7);
+    assert_eq!(listing(SHEET, &mut out[..answer.len() - 1]), None);
+    assert!(out.iter().all(|&b| b == 7));
+    assert_eq!(listing(SHEET, &mut out[..answer.len()]), Some(answer.len()));
+    assert_eq!((listing(b"x", &mut out), &out[..12]), (Some(12), &b"refused 5 0\n"[..]));
+    assert_eq!((listing(b"(hold 0 1 2)\n", &mut out), &out[..10]), (Some(10), &b"stop 21 1\n"[..]));
+    assert_eq!((listing(b"", &mut out), &out[..7]), (Some(7), &b"pass 0\n"[..]));
+    assert_eq!(listing(b"", &mut []), None);
 }

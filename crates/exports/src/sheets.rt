@@ -1,11 +1,14 @@
-// Sheets worked: the check and the run.
+// Sheets worked: the check, the run and the listing.
 use crate::texts::Verdict;
 ghost use mathlib.Core.Path.{_≡_};
 ghost use Rattle.meaning.specs.Run.{verdict, runCall, runLent};
 ghost use Rattle.meaning.specs.Check.{checkCall, checkSets, checkWork};
 ghost use Rattle.sheet_check.specs.Answer.{verdictOf as checkedVerdict};
 ghost use Rattle.run.specs.Answer.{verdictOf as ranVerdict};
-ghost use Rattle.exports.specs.Answers.{verdictOf};
+ghost use Rattle.meaning.specs.Listing.{listing};
+ghost use Rattle.listing.specs.Handed.{handed, handedOver};
+ghost use lib.ListN.{length};
+ghost use Rattle.exports.specs.Answers.{verdictOf, listedOf};
 
 fn ran(a: run::Answer) -> Verdict
     ensures { λ r. ⌜ verdictOf r ≡ ranVerdict a ⌝ }
@@ -68,4 +71,35 @@ pub extern "C" fn juwenfo_check(text: &[u8], sets: &mut [i64], work: &mut [i64])
     ensures { λ r. ⌜ now (work .exit) ≡ checkWork (now (text .entry)) (now (sets .entry)) (now (work .entry)) ⌝ }
 {
     checked(sheet_check::check(text, sets, work))
+}
+
+// True and how many bytes were written; or false and 0 where the listing is longer than the bytes that were lent.
+#[repr(C)]
+pub struct Listed {
+    pub count: usize,
+    pub fits: bool,
+}
+
+fn fitted(a: listing::Listed) -> Listed
+    ensures { λ r. ⌜ r ≡ listedOf a ⌝ }
+{
+    match a {
+        listing::Listed::Written(n) => Listed {
+            count: n,
+            fits: true,
+        },
+        listing::Listed::Short => Listed {
+            count: 0,
+            fits: false,
+        },
+    }
+}
+
+// The whole listing of any text at the front of out; if it does not fit, out is as it was lent.
+#[no_mangle]
+pub extern "C" fn juwenfo_listing(text: &[u8], out: &mut [u8]) -> Listed
+    ensures { λ r. ⌜ r ≡ listedOf (handed (listing (now (text .entry))) (length (now (out .entry)))) ⌝ }
+    ensures { λ r. ⌜ now (out .exit) ≡ handedOver (listing (now (text .entry))) (now (out .entry)) ⌝ }
+{
+    fitted(listing::listing(text, out))
 }
