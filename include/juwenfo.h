@@ -1,13 +1,15 @@
-/* Juwenfo for C: the functions of libexports.a (`rt staticlib exports`; the Rattle side is crates/exports).
+/* Juwenfo for C: the functions of libexports.a (`bindings/archive`; the Rattle side is crates/number_exports, set_exports and sheet_exports).
  *
- * Numbers are counts of thousandths. A set of numbers is the ends of its intervals in a slice, start and end in turn, in order; it is normal if
- * every start is at most its end and at least one number is missing between neighbours. Its flag stands beside it. A length counts elements.
+ * Numbers are counts of thousandths, from MIN (INT64_MIN) to MAX (INT64_MAX). A slice is a pointer and the length that follows it; a length counts
+ * elements. A set of numbers is the ends of its intervals in a slice, start and end in turn, in order; it is normal if every start is at most its end
+ * and at least one number is missing between neighbours. The empty set has length 0. A set's flag stands beside it: a div or rem on the way to it
+ * had a divisor that may be 0. docs/SHEETS.md teaches sheets: forms, registers, `in`, `hold`, LO and HI.
  *
  * Every call is total: it has no precondition on the numbers, bytes and lengths that it is given, and refuses by number instead.
  * What the caller sees to, for every call: each pointer is good for the length that follows it (NULL only with length 0), and what is behind a
  * pointer without const overlaps nothing else that is lent to the same call and is used by nobody else until it returns. docs/CALLERS.md says more.
  *
- * Numbers of refusals and findings:
+ * Numbers of refusals (1 to 9) and findings (20 to 22):
  *    1  a set of odd length, or not normal                         6  a line outside the grammar, or LO past HI
  *    2  a set of more than 32 numbers                              7  a literal beyond MIN..MAX
  *    3  a lent slice shorter than its call needs                   8  an `in` after another kind, or a second one for a register
@@ -62,7 +64,8 @@ int64_t juwenfo_number_ne(int64_t x, int64_t y);
  * Judged in this order: left 2, left 1, right 2, right 1, 3 (work is too short), 4 (out is too short).
  * After 1, 2 and 3 every slice is as lent. After 4 out is as lent. After success the first `count` numbers of out hold the answer, and the rest is
  * as lent. After success and after 4 the first NEED numbers of work are 0, and the rest is as lent. left and right are never written.
- * NEED is 2 * K * n * m for n and m intervals, with m = 1 where there is no right set.
+ * NEED is 2 * K * n * m for n and m intervals of left and right, with m = 1 where there is no right set; K stands at each call.
+ * An out of NEED numbers is never too short, nor one of left_len + right_len for union and intersect.
  */
 
 /* number 0: `count` numbers were written to out, and the answer's flag. Else the refusal's number, count 0 and flag false. */

@@ -1,4 +1,5 @@
-/* Runs the sheet on standard input on the numbers that the command line lends, in thousandths, and prints the registers. */
+/* Runs the sheet on standard input on the numbers that the command line lends, in thousandths, and prints the registers: those after the last line,
+ * or those before the line at which the run stops. */
 #include "juwenfo.h"
 #include <inttypes.h>
 #include <stdio.h>
@@ -15,9 +16,10 @@ int main(int argc, char **argv) {
     if (v.number != 0) {
         juwenfo_part p = juwenfo_line(text, n, v.line);
         printf("number %d at line %zu: %.*s\n", v.number, v.line, (int)p.length, (const char *)text + p.start);
-        return 1;
+        if (v.number < 20)
+            return 1;
     }
     for (int r = 0; r < JUWENFO_LENT; r++)
         printf("r%d %" PRId64 "\n", r, lent[r]);
-    return 0;
+    return v.number != 0;
 }

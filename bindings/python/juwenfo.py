@@ -2,7 +2,7 @@
 
 A shared object is made from the archive, once:
 
-    rt staticlib exports
+    bindings/archive
     cc -shared -o libjuwenfo.so -Wl,--whole-archive target/staticlib/libexports.a -Wl,--no-whole-archive
 
 It is looked for at the path in JUWENFO_LIBRARY, else beside this file.
@@ -27,11 +27,11 @@ class Refused(Exception):
 
 
 class Trouble(Exception):
-    """A sheet's refusal (5 to 9) or finding (20 to 22), and its line."""
+    """A sheet's refusal (5 to 9) or finding (20 to 22), and its line; of a run that stops also the 16 registers before that line."""
 
-    def __init__(self, number, line):
+    def __init__(self, number, line, registers=()):
         super().__init__("number %d at line %d" % (number, line))
-        self.number, self.line = number, line
+        self.number, self.line, self.registers = number, line, registers
 
 
 class _Maybe(ctypes.Structure):
@@ -192,9 +192,12 @@ def check(text):
 
 
 def run(text, lent=()):
-    """Runs a sheet on the numbers lent to registers 0, 1 .. (0 where none is): the 16 numbers after the last line."""
+    """Runs a sheet on the numbers lent to registers 0, 1 .. (0 where none is): the 16 numbers after the last line. Trouble 20 to 22 has those before it."""
     numbers = _slice(list(lent) + [0] * (REGISTERS - len(lent)))
-    _count(_run(text, len(text), numbers, len(numbers)))
+    v = _run(text, len(text), numbers, len(numbers))
+    if v.number >= 20:
+        raise Trouble(v.number, v.line, numbers[:REGISTERS])
+    _count(v)
     return numbers[:REGISTERS]
 
 

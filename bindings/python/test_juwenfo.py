@@ -42,6 +42,9 @@ class Calls(unittest.TestCase):
             with self.assertRaises(j.Trouble) as e:
                 call()
             self.assertEqual((e.exception.number, e.exception.line), (number, line))
+        with self.assertRaises(j.Trouble) as e:
+            j.run(b"(in 0 0 9)\n(put 1 2)\n(hold 0 0 1)\n", [5000])
+        self.assertEqual((e.exception.number, e.exception.line, e.exception.registers[:3]), (21, 3, [5000, 2000, 0]))
 
     def test_listings(self):
         self.assertEqual(j.listing(SHEET), b"pass 3\nr0 -1000..2000\nr1 -2500..5000\n")

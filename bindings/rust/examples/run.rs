@@ -1,4 +1,5 @@
-//! Runs a sheet on the numbers lent to registers 0, 1 .., in thousandths, and prints the registers: cargo run --example run ../../samples/scope.sheet 1500
+//! Runs a sheet on the numbers lent to registers 0, 1 .., in thousandths, and prints the registers: those after the last line,
+//! or those before the line at which the run stops: cargo run --example run ../../samples/scope.sheet 1500
 use juwenfo::{line, run, LENT};
 
 fn main() {
@@ -8,8 +9,12 @@ fn main() {
     for (to, word) in lent.iter_mut().zip(words) {
         *to = word.parse().expect("a number of thousandths");
     }
-    match run(&text, &mut lent) {
-        Err(t) => println!("number {} at line {}: {}", t.number, t.line, String::from_utf8_lossy(line(&text, t.line))),
-        Ok(_) => lent.iter().enumerate().for_each(|(r, x)| println!("r{r} {x}")),
+    let trouble = run(&text, &mut lent).err();
+    if let Some(t) = trouble {
+        println!("number {} at line {}: {}", t.number, t.line, String::from_utf8_lossy(line(&text, t.line)));
     }
+    if trouble.map_or(true, |t| t.number >= 20) {
+        lent.iter().enumerate().for_each(|(r, x)| println!("r{r} {x}"));
+    }
+    std::process::exit(trouble.is_some() as i32);
 }

@@ -33,6 +33,30 @@ unfolding someOf top
 some-top q i [] e = or-left (someOf (λ s e. q e) []) e
 some-top q i (j ∷ l) e = or-right (q (i .hi)) (some-top q j l e)
 
+-- ---- some pair, from the right set's side
+
+some-none : (l : Set) → someOf (λ s e. false) l ≡ false
+unfolding someOf
+some-none [] = refl
+some-none (i ∷ l) = some-none l
+
+some-or : (p q : ℤ → ℤ → Bool) (l : Set) → someOf (λ s e. p s e || q s e) l ≡ (someOf p l || someOf q l)
+unfolding someOf
+some-or p q [] = refl
+some-or p q (i ∷ l) = ap (λ (b : Bool). (p (i .lo) (i .hi) || q (i .lo) (i .hi)) || b) (some-or p q l) ∙ or-pairs (p (i .lo) (i .hi)) (q (i .lo) (i .hi)) (someOf p l) (someOf q l)
+  where
+    or-pairs : (a b c d : Bool) → ((a || b) || (c || d)) ≡ ((a || c) || (b || d))
+    or-pairs true b c d = refl
+    or-pairs false true true d = refl
+    or-pairs false true false d = refl
+    or-pairs false false true d = refl
+    or-pairs false false false d = refl
+
+pub some-swap : (p : ℤ → ℤ → ℤ → ℤ → Bool) (a b : Set) → somePair p a b ≡ somePair (λ t f s e. p s e t f) b a
+unfolding someOf
+some-swap p [] b = sym (some-none b)
+some-swap p (i ∷ a) b = ap (λ (x : Bool). someOf (p (i .lo) (i .hi)) b || x) (some-swap p a b) ∙ sym (some-or (p (i .lo) (i .hi)) (λ t f. someOf (λ s e. p s e t f) a) b)
+
 -- ---- the first start is the least, the last end the greatest
 
 low-all : (x : ℤ) (i : Interval) (l : Set) → x ≤ℤ i .lo → Normal (i ∷ l) → Each (λ s e. x ≤ℤ s) (i ∷ l)

@@ -166,32 +166,15 @@ pub fn le(left: &[i64], right: &[i64]) -> BoolInterval
     }
 }
 
-// lt: < and >= in their place.
+// lt may be true where le of the two swapped may be false, and false where that may be true.
 pub fn lt(left: &[i64], right: &[i64]) -> BoolInterval
     requires { ⌜ SetEnds (now left) × SetEnds (now right) ⌝ }
     ensures { λ r. ⌜ boolsOf r ≡ ltBools (intervals (now (left .entry))) (intervals (now (right .entry))) ⌝ }
 {
-    if left.len() < 2 {
-        return BoolInterval {
-            bfalse: false,
-            btrue: false,
-        };
-    }
-    if right.len() < 2 {
-        return BoolInterval {
-            bfalse: false,
-            btrue: false,
-        };
-    }
-    let s = left[0];
-    let e = left[left.len() - 1];
-    let t = right[0];
-    let f = right[right.len() - 1];
-    let no = slices::le(t, e);
-    let yes = less(s, f);
+    let b = le(right, left);
     BoolInterval {
-        bfalse: no,
-        btrue: yes,
+        bfalse: b.btrue,
+        btrue: b.bfalse,
     }
 }
 

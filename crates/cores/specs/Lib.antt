@@ -1,1 +1,2 @@
 pub mod Cored
+pub mod Operation

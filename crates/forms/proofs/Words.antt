@@ -72,7 +72,7 @@ head-bytes s =
       begins-stands (40 ∷ 111 ∷ 114 ∷ 32 ∷ []) s 0 tt,
     )
 
-no-other : (x : Bool) → (x && false) ≡ false
+pub no-other : (x : Bool) → (x && false) ≡ false
 no-other true = refl
 no-other false = refl
 

@@ -1,7 +1,3 @@
 pub mod Cuts
-pub mod DivRules
-pub mod MagnitudeRules
-pub mod RemRules
 pub mod SignRules
-pub mod SmallProducts
 pub mod SumRules

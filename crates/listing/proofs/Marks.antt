@@ -1,15 +1,16 @@
 -- The marks after the last line are set for just the registers that the listing shows. Assumes nothing.
-use lib.Dec.{eqb}
-use lib.ListN.{length, getD, set, take, drop, replicate, length-set, length-replicate}
-use lib.Seq.{take-suc, take-length, getD-set-same, getD-set-other}
+use lib.Dec.{eqb, leb}
+use lib.ListN.{length, getD, set, take, drop, replicate, length-set, length-drop, length-replicate}
+use lib.Seq.{take-suc, take-length, getD-drop, getD-set-same, getD-set-other}
 use lib.IntN.{ℤ, pos}
 use mathlib.Core.Path.{_≡_, refl, sym, ap, _∙_, subst}
 use mathlib.Core.Bool.{Bool, true, false, _||_}
 use mathlib.Core.List.{List, [], _∷_, _++_}
-use Prim.Native.Nat.{ℕ, zero, suc, _+_, _≤_, _<_}
+use Prim.Native.Nat.{ℕ, zero, suc, _+_, _-_, _≤_, _<_}
+use native.Mathlib.Nat.{add-zero}
 use native.Mathlib.Numerals.{add-one}
 use native.Mathlib.Omega.{arith}
-use borrow.Author.Tests.{eqb-true, eqb-false}
+use borrow.Author.Tests.{eqb-true, eqb-false, leb-true, leb-false}
 use Rattle.meaning.specs.Outcome.{Res, ok, stop}
 use Rattle.meaning.specs.Sheet.{registers, put, hold, Line, input, act}
 use Rattle.meaning.specs.Reading.{readLine}
@@ -25,7 +26,11 @@ use Rattle.meaning.proofs.Work.{not-stop}
 use Rattle.forms.specs.Answer.{putOf, lineFrom}
 use Rattle.forms.specs.declared.LineForm.{LineForm}
 use Rattle.forms.specs.declared.LineForm.the-variants as line
-use Rattle.listing.specs.Marks.{markLine, marksAfter, Readable, SheetOf}
+use Rattle.sheet.specs.Answer.{IsSheet}
+use Rattle.sheet.specs.Feed.{feed}
+use Rattle.sheet.proofs.Feeds.{end-lt}
+use Rattle.sheet.proofs.Walk.{Walk, Next, walk-start, walk-next, walk-done}
+use Rattle.listing.specs.Marks.{markLine, marksAfter, Readable}
 
 pub length-mark : (l : Res Line) (m : List Bool) → length (markLine l m) ≡ length m
 unfolding markLine
@@ -111,14 +116,53 @@ module _ (t : List ℕ) {ls : List Line} (e : read t ≡ sheet ls) where
   marks-listed n r c k =
       marks-taken n r (omega arith) k ∙ ap (λ (x : List Line). listed x r) (sym (ap (λ (m : ℕ). take m ls) c) ∙ take-length ls)
 
-  -- every line is inside the grammar
-  pub line-readable : (n : ℕ) → n < length ls → Readable (lineAt t (suc n))
-  line-readable n h = record { line = getD ls n (act (hold 0 (pos 0) (pos 0))); reads = read-line-at t n _ e h }
+-- ---- line by line: with i of the n lines passed, `at` bytes, the marks are those of the lines passed
 
-module _ (t : List ℕ) (i : ℕ) {b : List ℕ} (e : b ≡ lineAt t (i + 1)) where
-  pub marks-step : markLine (readLine b) (marksAfter t i) ≡ marksAfter t (i + 1)
-  unfolding marksAfter
-  marks-step = ap (λ (x : List ℕ). markLine (readLine x) (marksAfter t i)) (e ∙ ap (lineAt t) (add-one i)) ∙ ap (marksAfter t) (sym (add-one i))
+pub record Marking (t : List ℕ) (n : ℕ) (marks : List Bool) (i at : ℕ) : Type 0 where
+  pub sheet-is : IsSheet t n
+  pub walk : Walk t (sheet-is .lines) i at
+  pub marks-are : marks ≡ marksAfter t i
 
-  pub next-readable : {n : ℕ} → SheetOf t n → i < n → Readable b
-  next-readable s h = subst Readable (sym (e ∙ ap (lineAt t) (add-one i))) (line-readable t (s .reads) i (omega (arith, s .count)))
+pub marking-start : (t : List ℕ) {n : ℕ} {marks : List Bool} → IsSheet t n → marks ≡ marksAfter t 0 → Marking t n marks 0 0
+marking-start t s m = record { sheet-is = s; walk = walk-start t (s .reads); marks-are = m }
+
+module _ (t : List ℕ) (n : ℕ) (marks : List Bool) (i at : ℕ) (g : Marking t n marks i at) (h : i < n) where
+  abbrev ls : List Line
+  ls = g .sheet-is .lines
+
+  -- bytes are left
+  more : at < length t
+  more =
+      by-test (leb (length t) at)
+      (λ b. absurd (let z = ap length (walk-done t ls i at (g .walk) (leb-true (length t) at b)) in omega (arith, z, length-drop i ls, g .sheet-is .count)))
+      (λ b. leb-false (length t) at b)
+
+  module _ {e : ℕ} (ee : e ≡ at + feed (drop at t)) where
+    pub marking-end : e < length t
+    marking-end = end-lt t at ee more (g .walk .ended)
+
+    abbrev bytes : List ℕ
+    bytes = take (e - at) (drop at t)
+
+    abbrev next : Next t ls i e bytes
+    next = walk-next t ls i at (g .walk) more ee
+
+    pub marking-readable : Readable bytes
+    marking-readable = record { line = next .line; reads = next .reads-it }
+
+    -- they are the bytes of the line finder's line, as far as reading goes
+    same-line : readLine bytes ≡ readLine (lineAt t (suc i))
+    same-line =
+        let d : getD ls (i + 0) (next .line) ≡ next .line = sym (getD-drop i ls 0 (next .line)) ∙ ap (λ (x : List Line). getD x 0 (next .line)) (next .lines-left) in
+        let k : getD ls i (next .line) ≡ next .line = sym (ap (λ (j : ℕ). getD ls j (next .line)) (add-zero i)) ∙ d in
+        next .reads-it
+        ∙ ap (λ (l : Line). ok l) (sym k)
+        ∙ sym (read-line-at t i (next .line) (g .sheet-is .reads) (omega (arith, g .sheet-is .count)))
+
+    pub marking-next : {after : List Bool} → after ≡ markLine (readLine bytes) marks → Marking t n after (i + 1) (e + 1)
+    unfolding marksAfter
+    marking-next a = record {
+      sheet-is = g .sheet-is;
+      walk = next .walk;
+      marks-are = a ∙ (λ k. markLine (same-line k) (g .marks-are k)) ∙ ap (marksAfter t) (sym (add-one i));
+    }

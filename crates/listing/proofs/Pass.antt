@@ -31,7 +31,8 @@ use mathlib.Core.List.{append-assoc}
 use Prim.Native.Nat.{_*_}
 use Rattle.listing.specs.Told.{Told}
 use Rattle.listing.specs.Texts.{markedLine, markedLines, Counted}
-use Rattle.listing.specs.Marks.{marksAfter, SheetOf}
+use Rattle.sheet.specs.Answer.{IsSheet}
+use Rattle.listing.specs.Marks.{marksAfter}
 use Rattle.listing.proofs.Marks.{marks-listed}
 
 -- an element that is there, whatever stands for those that are not
@@ -53,7 +54,7 @@ module _ (ls : List Line) (S : List Set) (m : List Bool) (l : List ℤ)
 
 -- a pass
 module _ (t : List ℕ) {n : ℕ} {B : Bands} (e : checkText shipLimit t ≡ worked n (done B)) where
-  pub sheet-of : SheetOf t n
+  pub sheet-of : IsSheet t n
   unfolding checkText
   sheet-of = let w = judge-worked (check shipLimit) (read t) e in record { lines = w .lines; reads = w .reads; count = w .count }
 
@@ -63,7 +64,7 @@ module _ (t : List ℕ) {n : ℕ} {B : Bands} (e : checkText shipLimit t ≡ wor
       let w = judge-worked (check shipLimit) (read t) e in
       let s = passed-sound shipLimit t (omega arith) e in
       let ls = w .lines in
-      let shown : (r : ℕ) → r < registers → setIn (over (layout (B .sets)) old) r ≡ at (B .sets) r = λ r h. sets-shown t e old r h ∙ getD-there (B .sets) r [] (only (pos 0)) (subst (λ (k : ℕ). r < k) (sym (s .size)) h) in
+      let shown : (r : ℕ) → r < registers → setIn (over (layout (B .sets)) old) r ≡ at (B .sets) r = λ r h. sets-shown t n B e old r h ∙ getD-there (B .sets) r [] (only (pos 0)) (subst (λ (k : ℕ). r < k) (sym (s .size)) h) in
       let m = marked-lines-are ls (B .sets) (marksAfter t n) (over (layout (B .sets)) old) (λ r h. marks-listed t (w .reads) n r (w .count) h) shown registers 0 (omega arith) in
       (λ i. passLine (sym (w .count) i) ++ m i)
       ∙ sym (ap readText (w .reads) ∙ ap (outcomeText ls) (w .gives))
@@ -95,7 +96,7 @@ counted t {B = B} e old = record { few = few }
 
 -- what a pass gives to the listing
 pub record Passing (t : List ℕ) (l : List ℤ) (n : ℕ) : Type 0 where
-  pub sheet : SheetOf t n
+  pub sheet : IsSheet t n
   pub long : length l ≡ setsNeed
   pub few : Counted l
   pub text : passLine n ++ markedLines (marksAfter t n) l 0 registers ≡ listing t

@@ -1,5 +1,5 @@
 -- Which registers have an `in` or a `put`: a mark for each, set line by line. Assumes nothing.
-use lib.ListN.{length, set, replicate}
+use lib.ListN.{set, replicate}
 use mathlib.Core.Path.{_≡_}
 use mathlib.Core.Bool.{Bool, true, false}
 use mathlib.Core.List.{List}
@@ -7,7 +7,7 @@ use Prim.Native.Nat.{ℕ, zero, suc}
 use Rattle.meaning.specs.Outcome.{Res, ok, stop}
 use Rattle.meaning.specs.Sheet.{registers, put, hold, Line, input, act}
 use Rattle.meaning.specs.Reading.{readLine}
-use Rattle.meaning.specs.Text.{lineAt, sheet, read}
+use Rattle.meaning.specs.Text.{lineAt}
 
 -- the marks after one line more
 unfoldable pub markLine : Res Line → List Bool → List Bool
@@ -25,9 +25,3 @@ marksAfter t (suc n) = markLine (readLine (lineAt t (suc n))) (marksAfter t n)
 pub record Readable (s : List ℕ) : Type 0 where
   pub line : Line
   pub reads : readLine s ≡ ok line
-
--- the text is a sheet of n lines
-pub record SheetOf (t : List ℕ) (n : ℕ) : Type 0 where
-  pub lines : List Line
-  pub reads : read t ≡ sheet lines
-  pub count : length lines ≡ n

@@ -10,16 +10,17 @@ ghost use Rattle.meaning.specs.Sheet.{registers};
 ghost use Rattle.meaning.specs.Check.{slotSize, countIn, setsNeed};
 ghost use Rattle.meaning.specs.Listing.{decimal, decimalZ, troubleLine, passLine, intervalTexts, registerLine, listing};
 ghost use Rattle.decimal.specs.Written.{Written};
+ghost use Rattle.sheet.specs.Answer.{IsSheet};
 ghost use Rattle.sheet_check.specs.Answer.{verdictOf};
 ghost use Rattle.meaning.specs.Reading.{readLine};
-ghost use Rattle.listing.specs.Marks.{markLine, marksAfter, Readable, SheetOf};
+ghost use Rattle.listing.specs.Marks.{markLine, marksAfter, Readable};
 ghost use Rattle.listing.specs.Longest.{longest};
 ghost use Rattle.listing.specs.Told.{Told};
 ghost use Rattle.listing.specs.Handed.{handed, handedOver};
 ghost use Rattle.listing.specs.Texts.{wordLine, troubleStart, intervalText, markedLine, markedLines, Counted};
 use forms::LineForm;
 use forms::read_line;
-use sheet::line;
+use sheet::line_end;
 use sheet_check::Answer;
 use sheet_check::check;
 
@@ -180,21 +181,24 @@ fn mark(marks: &mut [bool; 16], line: &[u8])
     }
 }
 
-// Marks the registers that the first n lines write.
+// Marks the registers that the n lines of a sheet write.
 fn mark_lines(marks: &mut [bool; 16], text: &[u8], n: usize)
-    requires { ⌜ SheetOf (now text) n × (now marks ≡ marksAfter (now text) 0) ⌝ }
+    requires { ⌜ IsSheet (now text) n × (now marks ≡ marksAfter (now text) 0) ⌝ }
     ensures { λ _. ⌜ now (marks .exit) ≡ marksAfter (now (text .entry)) n ⌝ }
 {
+    let mut at = 0;
     let mut i = 0;
     while i < n {
+        let e = line_end(text, at);
+        mark(marks, &text[at..e]);
+        at = e + 1;
         i += 1;
-        mark(marks, line(text, i));
     }
 }
 
 // The listing of a sheet of n lines that the check passes with these sets.
 fn passed(out: &mut [u8], text: &[u8], sets: &[i64], n: usize) -> usize
-    requires { ⌜ SheetOf (now text) n × (length (now sets) ≡ setsNeed) × Counted (now sets) ⌝ }
+    requires { ⌜ IsSheet (now text) n × (length (now sets) ≡ setsNeed) × Counted (now sets) ⌝ }
     requires { ⌜ length (passLine n ++ markedLines (marksAfter (now text) n) (now sets) 0 registers) ≤ length (now out) ⌝ }
     ensures { λ r. ⌜ Written r (passLine n ++ markedLines (marksAfter (now (text .entry)) n) (now (sets .entry)) 0 registers) (now (out .exit)) (now (out .entry)) ⌝ }
 {

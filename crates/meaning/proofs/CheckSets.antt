@@ -56,7 +56,7 @@ settle-ok limit s flag {s′} e =
 
 -- no flag: no member of the divisor is 0
 nonzero : {o : Op2} → FlagIs o → (a b : Set) {x y : ℤ} → Normal a → Normal b → x ∈ a → y ∈ b → flag2 o false a b ≡ false → eqZ y (pos 0) ≡ false
-nonzero f a b {x} {y} m n h k e = by-test (eqZ y (pos 0)) (λ p. clash (f .set-if a b x m n h (subst (λ (v : ℤ). v ∈ b) (eqZ-is p) k)) e) (λ p. p)
+nonzero f a b {x} {y} m n h k e = by-test (eqZ y (pos 0)) (λ p. clash (f .set-if false a b x m n h (subst (λ (v : ℤ). v ∈ b) (eqZ-is p) k)) e) (λ p. p)
 
 module _ (d : Demand2) where
   -- no flag: members have a result

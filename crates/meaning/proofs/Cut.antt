@@ -14,7 +14,7 @@ use Rattle.meaning.specs.Outcome.{Res, ok, stop}
 use Rattle.meaning.specs.Sheet.{Line}
 use Rattle.meaning.specs.Reading.{readLine}
 use Rattle.meaning.specs.Text.{Split, front, splitLines, lines, lineAt, cut, narrow, empty, shaped, Seen, nothingSeen, admit, Read, sheet, noSheet, prepend, Taken, thenRead, readOne, readLines, read}
-use Rattle.meaning.specs.ReadLaws.{LineAt}
+use Rattle.meaning.specs.ReadLaws.{feeds, LineAt}
 use Rattle.meaning.proofs.Integers.{never, and-both, and-yes}
 use Rattle.meaning.proofs.Work.{ok-same, bind-ok}
 
@@ -138,9 +138,35 @@ plain-at [] n p = tt
 plain-at (l ∷ ls) zero p = p .0
 plain-at (l ∷ ls) (suc n) p = plain-at ls n (p .1)
 
+-- as many lines as LFs
+lines-feeds : (t : List ℕ) → length (lines t) ≡ feeds t
+unfolding splitLines
+lines-feeds [] = refl
+lines-feeds (b ∷ t) = go (eqb b 10) (lines-feeds t)
+  where
+    front-long : (ls : List (List ℕ)) (r : List ℕ) → length (front b ls r .lines) ≡ length ls
+    front-long [] r = refl
+    front-long (l ∷ ls) r = refl
+
+    go : (q : Bool) → length (lines t) ≡ feeds t
+        → length (cond q (record { lines = [] ∷ lines t; rest = splitLines t .rest }) (front b (lines t) (splitLines t .rest)) .lines) ≡ cond q (suc (feeds t)) (feeds t)
+    go true e = ap suc e
+    go false e = front-long (lines t) (splitLines t .rest) ∙ e
+
+-- a text with fewer LFs is cut nowhere
+pub cut-past : (t : List ℕ) (n : ℕ) → feeds t < n → cut t n ≡ t
+unfolding cut
+cut-past [] n h = refl
+cut-past (b ∷ t) zero h = absurd (let x : ⊥ = omega arith in x)
+cut-past (b ∷ t) (suc n) h = ap {B = List ℕ} (λ u. b ∷ u) (go (eqb b 10) h (cut-past t))
+  where
+    go : (q : Bool) → cond q (suc (feeds t)) (feeds t) < suc n → ((m : ℕ) → feeds t < m → cut t m ≡ t) → cut t (cond q n (suc n)) ≡ t
+    go true h ih = ih n (le-of-suc-le-suc h)
+    go false h ih = ih (suc n) h
+
 pub line-at : (t : List ℕ) → LineAt t
 unfolding lineAt
-line-at t = record { none = refl; within = cut-next t; past = past; plain = plain }
+line-at t = record { count = lines-feeds t; none = refl; within = cut-next t; past = past; plain = plain }
   where
     past : (n : ℕ) → length (lines t) < n → lineAt t n ≡ []
     past zero h = refl

@@ -2,7 +2,7 @@
 -- Assumes nothing.
 use lib.IntN.{ℤ, pos}
 use lib.Signed.{remZ}
-use mathlib.Core.Path.{_≡_, ap, subst}
+use mathlib.Core.Path.{_≡_, refl, ap, subst}
 use mathlib.Core.Bool.{cond}
 use mathlib.Core.List.{List}
 use mathlib.Core.Option.{Option, none, some}
@@ -10,16 +10,16 @@ use Prim.Native.Nat.{ℕ}
 use native.Mathlib.Omega.{arith}
 use Rattle.meaning.specs.Number.{Between, eqZ, Op1, neg, abs, not′, Op2, add, sub, mul, div, rem, le, lt, ne, and, or, negative, absolute, sum, difference, ratio, quotient, remainder, point1, point2}
 use Rattle.meaning.specs.Interval.{Interval, Proper, each, PairOp, negPair, absPair, addPair, subPair, mulPair, divPair, remPair}
-use Rattle.meaning.specs.NumberIntervals.{Set, _∈_, Normal, rebuild, eachPair, set1, set2, flag2}
+use Rattle.meaning.specs.NumberIntervals.{Set, _∈_, Normal, rebuild, eachPair, set1, set2, flag1, flag2}
 use Rattle.meaning.specs.Demand2.{Holds1, Holds2, Only1, Only2, FlagIs, Demand2}
-use Rattle.meaning.proofs.Integers.{cond-case, eqZ-not}
+use Rattle.meaning.proofs.Integers.{cond-case, eqZ-not, or-right}
 use Rattle.meaning.proofs.Members.{AllProper, normal-proper, in-each, all-each, in-pairs, all-pairs, each-origin}
 use Rattle.meaning.proofs.Join.{in-rebuild, rebuild-in, rebuild-normal, normal-unique}
 use Rattle.meaning.proofs.Sums.{From2, add-holds, add-only, add-proper, add-few, sub-holds, sub-only, sub-proper, sub-few}
 use Rattle.meaning.proofs.Signs.{From1, neg-holds, neg-only, neg-proper, neg-few, abs-holds, abs-only, abs-proper, abs-few}
 use Rattle.meaning.proofs.Products.{mul-holds, mul-proper, mul-few}
 use Rattle.meaning.proofs.Quotients.{div-holds, div-proper, div-few}
-use Rattle.meaning.proofs.Remainders.{rem-holds, rem-proper}
+use Rattle.meaning.proofs.Remainders.{rem-holds, rem-proper, rem-rules}
 use Rattle.meaning.proofs.RemainderCounts.{rem-few}
 use Rattle.meaning.proofs.Compare.{bools-normal, le-holds, lt-holds, ne-holds, and-holds, or-holds, not-holds, union-holds, union-only, union-normal, intersect-holds, intersect-only, intersect-normal, zero-found, zero-found-only}
 
@@ -147,14 +147,15 @@ only-sub a b z n k m =
 
 flag-div : FlagIs div
 unfolding flag2
-flag-div = record { set-if = λ a b x n k m h. zero-found a b m h; only-if = λ a b n k e. zero-found-only a b n e }
+flag-div = record { kept = λ a b. refl; set-if = λ flag a b x n k m h. or-right flag (zero-found a b m h); only-if = λ a b n k e. zero-found-only a b n e }
 
 flag-rem : FlagIs rem
 unfolding flag2
-flag-rem = record { set-if = λ a b x n k m h. zero-found a b m h; only-if = λ a b n k e. zero-found-only a b n e }
+flag-rem = record { kept = λ a b. refl; set-if = λ flag a b x n k m h. or-right flag (zero-found a b m h); only-if = λ a b n k e. zero-found-only a b n e }
 
 -- Demand 2: nothing left open
 pub demand2 : Demand2
+unfolding flag1 flag2
 demand2 = record {
   holds1 = holds1;
   holds2 = holds2;
@@ -172,6 +173,17 @@ demand2 = record {
   intersect-normal = intersect-normal;
   div-flag = flag-div;
   rem-flag = flag-rem;
+  neg-flag = λ flag. refl;
+  abs-flag = λ flag. refl;
+  add-flag = λ flag a b. refl;
+  sub-flag = λ flag a b. refl;
+  mul-flag = λ flag a b. refl;
+  not-flag = λ flag. refl;
+  le-flag = λ flag a b. refl;
+  lt-flag = λ flag a b. refl;
+  ne-flag = λ flag a b. refl;
+  and-flag = λ flag a b. refl;
+  or-flag = λ flag a b. refl;
   neg-few = λ s e p. neg-few s e;
   abs-few = λ s e p. abs-few s e;
   add-few = λ s e t f p q. add-few s e t f;
@@ -179,5 +191,9 @@ demand2 = record {
   mul-few = λ s e t f p q. mul-few s e t f;
   div-few = λ s e t f p q. div-few p q;
   rem-few = λ s e t f p q. rem-few p q;
+  rem-rules = λ s e t f p q. rem-rules p q;
+  join-normal = rebuild-normal;
+  join-holds = λ l z p m. in-rebuild m;
+  join-only = λ l z p m. rebuild-in l p m;
   unique = normal-unique;
 }

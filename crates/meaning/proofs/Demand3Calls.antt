@@ -157,7 +157,7 @@ demand3-calls t sets work lent n h k e i =
           passes = λ sets′ work′ g. check-verdict (cut t m) sets′ work′ g (a .passes);
           members =
               λ sets′ work′ g r b. subst (λ (x : List Interval). getD (a .state) r (pos 0) ∈ x)
-              (sym (ap (λ (l : List ℤ). setIn l r) (check-left (cut t m) sets′ work′ g (a .passes)) ∙ sets-shown (cut t m) (a .passes) sets′ r b)) (a .members .member r b);
+              (sym (ap (λ (l : List ℤ). setIn l r) (check-left (cut t m) sets′ work′ g (a .passes)) ∙ sets-shown (cut t m) m (a .bands) (a .passes) sets′ r b)) (a .members .member r b);
           runs = run-verdict (cut t m) lent k (a .runs);
           leaves = λ r b. ap (λ (l : List ℤ). getD l r (pos 0)) (run-left (cut t m) lent k (a .runs)) ∙ first (a .state) r (done-sized (cut t m) lent (a .runs)) b;
         }

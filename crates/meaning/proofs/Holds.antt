@@ -1,14 +1,18 @@
--- `inside`, the check's test of a hold, is exact: it is true just when every member of the set is from LO to HI, and where it is false some member is outside. Assumes nothing.
+-- A hold is judged exactly: `inside`, the check's test of it, is true just when every member of the set is from LO to HI, and where it is false some member is outside. Assumes nothing.
 use lib.IntN.{ℤ}
 use lib.Signed.{leZ, ≤ℤ-refl}
-use mathlib.Core.Path.{_≡_, refl}
-use mathlib.Core.Bool.{Bool, true, false, _&&_}
+use mathlib.Core.Path.{_≡_, refl, sym, ap, _∙_}
+use mathlib.Core.Bool.{Bool, true, false, cond, _&&_}
 use mathlib.Core.List.{[], _∷_}
+use Rattle.meaning.specs.Refusals.{holdBroken}
 use Rattle.meaning.specs.Number.{Between}
 use Rattle.meaning.specs.NumberIntervals.{Set, _∈_, here, there, Normal}
-use Rattle.meaning.specs.Check.{inside}
+use Rattle.meaning.specs.Outcome.{ok, stop}
+use Rattle.meaning.specs.Check.{Bands, at, inside, checkAct}
+use Rattle.meaning.specs.CheckSets.{Outside, HoldExact}
 use Rattle.meaning.proofs.Integers.{zarith, never, by-test, and-both}
 use Rattle.meaning.proofs.Members.{between}
+use Rattle.meaning.proofs.Work.{guard-ok, not-stop}
 
 -- a hold that passes: every member is from lo to hi
 pub inside-all : (lo hi : ℤ) {s : Set} {z : ℤ} → inside lo s hi ≡ true → z ∈ s → Between lo z hi
@@ -25,12 +29,6 @@ inside-all lo hi e (there {i} {s} m) =
     let h = and-both (leZ lo (i .lo)) (leZ (i .hi) hi && inside lo s hi) e in
     inside-all lo hi (and-both (leZ (i .hi) hi) (inside lo s hi) (h .1) .1) m
 
--- a member that is not from lo to hi
-pub record Outside (lo hi : ℤ) (s : Set) : Type 0 where
-  pub member : ℤ
-  pub member-in : member ∈ s
-  pub outside : Between lo member hi → ⊥
-
 -- a hold that does not pass: some member is outside
 pub inside-else : (lo hi : ℤ) (s : Set) → Normal s → inside lo s hi ≡ false → Outside lo hi s
 unfolding inside
@@ -45,17 +43,14 @@ inside-else lo hi (i ∷ s) n e = go (leZ lo (i .lo)) (leZ (i .hi) hi) refl refl
 pub all-inside : (lo hi : ℤ) (s : Set) → Normal s → ((z : ℤ) → z ∈ s → Between lo z hi) → inside lo s hi ≡ true
 all-inside lo hi s n h = by-test (inside lo s hi) (λ e. e) (λ e. let o = inside-else lo hi s n e in absurd (o .outside (h (o .member) (o .member-in))))
 
--- the test in one statement
-pub record InsideIs (lo hi : ℤ) (s : Set) : Type 0 where
-  pub holds : inside lo s hi ≡ true → (z : ℤ) → z ∈ s → Between lo z hi
-  pub held : ((z : ℤ) → z ∈ s → Between lo z hi) → inside lo s hi ≡ true
-  pub broken : inside lo s hi ≡ false → Outside lo hi s
-  pub breaks : Outside lo hi s → inside lo s hi ≡ false
-
-pub inside-is : (lo hi : ℤ) (s : Set) → Normal s → InsideIs lo hi s
-inside-is lo hi s n = record {
-  holds = λ e z m. inside-all lo hi e m;
-  held = all-inside lo hi s n;
-  broken = inside-else lo hi s n;
-  breaks = λ o. by-test (inside lo s hi) (λ e. absurd (o .outside (inside-all lo hi e (o .member-in)))) (λ e. e);
-}
+-- the line itself: a hold passes just when every member is inside, and 21 is its answer just when some member is outside
+pub hold-exact : HoldExact
+unfolding checkAct
+hold-exact limit B r lo hi n =
+    let s = at (B .sets) r in
+    record {
+      passes = λ e z m. inside-all lo hi (guard-ok (inside lo s hi) holdBroken (ok B) e .0) m;
+      passes-if = λ h. ap (λ (t : Bool). cond t (ok B) (stop holdBroken)) (all-inside lo hi s n h);
+      breaks = λ e. by-test (inside lo s hi) (λ t. not-stop (sym e ∙ ap (λ (u : Bool). cond u (ok B) (stop holdBroken)) t)) (inside-else lo hi s n);
+      breaks-if = λ o. by-test (inside lo s hi) (λ t. absurd (o .outside (inside-all lo hi t (o .member-in)))) (λ t. ap (λ (u : Bool). cond u (ok B) (stop holdBroken)) t);
+    }

@@ -1,9 +1,11 @@
 pub mod All
+pub mod Cases
 pub mod CheckSets
 pub mod Compare
 pub mod Cut
 pub mod Decimals
 pub mod Demand2
+pub mod Demand2Calls
 pub mod Demand3
 pub mod Demand3Calls
 pub mod Fine
@@ -23,7 +25,7 @@ pub mod Readings
 pub mod RemainderCounts
 pub mod RemainderRules
 pub mod Remainders
-pub mod Sample
+pub mod Samples
 pub mod SheetReadings
 pub mod Signs
 pub mod Slots

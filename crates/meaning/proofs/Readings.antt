@@ -2,11 +2,11 @@
 use mathlib.Core.Path.{refl}
 use Rattle.meaning.specs.Number.{within, window, wrap, negative, absolute, sum, product, quotient, remainder, next, prev, point1, point2}
 use Rattle.meaning.specs.Interval.{each, without, negPair, absRest, absPair, pieces, split, spread, addPair, leastCorner, greatestCorner, mulPair, divPiece, divPart, divPair, against, remMagnitudes, ruleF, remStep, remWith, remPair}
-use Rattle.meaning.specs.NumberIntervals.{contains, insert, rebuild, union, asBools, ofBools, someOf, leBools, ltBools, neBools, set1, set2, flag2}
+use Rattle.meaning.specs.NumberIntervals.{contains, insert, rebuild, union, asBools, ofBools, someOf, leBools, ltBools, neBools, set1, set2, flag1, flag2}
 use Rattle.meaning.specs.Readings.{Readings}
 
 pub readings : Readings
-unfolding within window wrap negative absolute sum product quotient remainder next prev point1 point2 each without negPair absRest absPair pieces split spread addPair leastCorner greatestCorner mulPair divPiece divPart divPair against remMagnitudes ruleF remStep remWith remPair contains insert rebuild union asBools ofBools someOf leBools ltBools neBools set1 set2 flag2
+unfolding within window wrap negative absolute sum product quotient remainder next prev point1 point2 each without negPair absRest absPair pieces split spread addPair leastCorner greatestCorner mulPair divPiece divPart divPair against remMagnitudes ruleF remStep remWith remPair contains insert rebuild union asBools ofBools someOf leBools ltBools neBools set1 set2 flag1 flag2
 readings = record {
   mul-to-zero = refl;
   div-wraps = refl;
@@ -23,6 +23,8 @@ readings = record {
   empty-and-five = refl;
   empty-or-five = refl;
   empty-not = refl;
+  not-five = refl;
+  not-zero = refl;
   empty-ne = refl;
   both-ordered = refl;
   lt-equal = refl;
@@ -38,10 +40,16 @@ readings = record {
   div-least = refl;
   rem-negative = refl;
   rem-against = refl;
+  rem-nested = refl;
   abs-both-sides = refl;
   abs-only-least = refl;
   touching-joined = refl;
   missing-one = refl;
   empty-left-flag = refl;
   zero-flag = refl;
+  flag-kept-add = refl;
+  flag-kept-div = refl;
+  flag-kept-abs = refl;
+  flag-cleared-le = refl;
+  flag-cleared-not = refl;
 }

@@ -9,13 +9,13 @@ use mathlib.Core.Path.{_≡_, refl, ap, _∙_, subst}
 use mathlib.Core.Bool.{Bool, true, false, cond, _&&_}
 use mathlib.Core.Logic.{inl, inr}
 use mathlib.Core.List.{List, [], _++_}
-use Prim.Native.Nat.{ℕ, zero, suc, _+_, _-_, _*_, _/_, _%_, _^_, _≤_, _<_}
+use Prim.Native.Nat.{ℕ, zero, suc, _+_, _-_, _*_, _/_, _%_, _^_, _≤_, _<_, min}
 use native.Mathlib.Nat.{mod-lt, div-add-mod', suc-mul}
 use native.Mathlib.Omega.{arith}
 use Rattle.meaning.specs.Number.{MIN, Between, within}
 use Rattle.meaning.specs.Interval.{Interval, span, only, Proper, without, PairOp, cutLeft, cutRight, leastMagnitude, greatestMagnitude, ruleA, ruleB, ruleC, against, ruleD, ruleE, signedSpan, remMagnitudes, ruleF, remStep}
 use Rattle.meaning.specs.NumberIntervals.{_∈_, here}
-use Rattle.meaning.proofs.Integers.{zarith, true-T, false-T, by-test, cond-case, cond-same, within-case, is-within, and-both, one-part, abs-parts, up-neg, down-neg}
+use Rattle.meaning.proofs.Integers.{up, down, zarith, true-T, false-T, by-test, cond-case, cond-same, within-case, is-within, and-both, one-part, abs-parts, up-neg, down-neg}
 use Rattle.meaning.proofs.Members.{between, in-left, in-right, all-append, each-same, AllProper}
 use Rattle.meaning.proofs.Parts.{Part, parts, part-proper, OneSign}
 
@@ -137,29 +137,25 @@ pub record Magnitudes (s e x : ℤ) : Type 0 where
   pub to : natAbs x ≤ greatestMagnitude s e
   pub some : 0 < leastMagnitude s e
 
+-- a number is its magnitude up or down from 0
+size : (a : ℤ) → (natAbs a ≡ up a + down a) × (min (up a) (down a) ≡ 0)
+size a = (abs-parts a, one-part a)
+
 pub magnitudes : {s e x : ℤ} → OneSign s e → Between s x e → Magnitudes s e x
 magnitudes {s} {e} {x} (inl g) b =
-    let a = abs-parts s in
-    let c = abs-parts e in
-    let d = abs-parts x in
-    record {
-      from = omega (zarith, g, b .above, b .below, one-part s, one-part e, one-part x);
-      to = omega (zarith, g, b .above, b .below, one-part s, one-part e, one-part x);
-      some = omega (zarith, g, b .above, b .below, one-part s, one-part e, one-part x);
-    }
+    let a = size s in
+    let c = size e in
+    let d = size x in
+    record { from = omega zarith; to = omega zarith; some = omega zarith }
 magnitudes {s} {e} {x} (inr g) b =
-    let a = abs-parts s in
-    let c = abs-parts e in
-    let d = abs-parts x in
-    record {
-      from = omega (zarith, g, b .above, b .below, one-part s, one-part e, one-part x);
-      to = omega (zarith, g, b .above, b .below, one-part s, one-part e, one-part x);
-      some = omega (zarith, g, b .above, b .below, one-part s, one-part e, one-part x);
-    }
+    let a = size s in
+    let c = size e in
+    let d = size x in
+    record { from = omega zarith; to = omega zarith; some = omega zarith }
 
 -- none is over 2^63
 pub magnitude-fits : {s e : ℤ} → Proper s e → greatestMagnitude s e ≤ 2 ^ 63
-magnitude-fits {s} {e} o = omega (zarith, o .low, o .ordered, o .high, abs-parts s, abs-parts e, one-part s, one-part e)
+magnitude-fits {s} {e} o = omega (zarith, o .low, o .ordered, o .high, size s, size e)
 
 -- n, negated if L is negative
 abbrev signed : Bool → ℕ → ℤ

@@ -14,7 +14,7 @@ use Rattle.meaning.specs.Outcome.{done}
 use Rattle.meaning.specs.Sheet.{registers}
 use Rattle.meaning.specs.Run.{worked}
 use Rattle.meaning.specs.Check.{Bands, slotSize, slot, layout, setIn, setsNeed, shipLimit, checkText}
-use Rattle.meaning.specs.CheckSets.{SoundBands}
+use Rattle.meaning.specs.CheckSets.{SoundBands, SetsShown}
 use Rattle.meaning.proofs.All.{all-from}
 use Rattle.meaning.proofs.CheckSets.{passed-sound}
 use Rattle.meaning.proofs.Flat.{intervals-flat, length-flat}
@@ -77,7 +77,7 @@ pub length-shown : {B : Bands} → SoundBands shipLimit B → length (layout (B 
 length-shown {B} h = length-layout (B .sets) (sound-short h) ∙ ap (λ (n : ℕ). n * slotSize) (h .size)
 
 -- each register's set reads back from what a passed check leaves, whatever the slice held
-pub sets-shown : (t : List ℕ) {n : ℕ} {B : Bands} → checkText shipLimit t ≡ worked n (done B) → (old : List ℤ) (r : ℕ) → r < registers → setIn (over (layout (B .sets)) old) r ≡ getD (B .sets) r []
-sets-shown t {B} e old r h =
+pub sets-shown : SetsShown
+sets-shown t n B e old r h =
     let s = passed-sound shipLimit t (omega arith) e in
-    layout-over (B .sets) old r (sound-short s) (subst (λ (n : ℕ). r < n) (sym (s .size)) h)
+    layout-over (B .sets) old r (sound-short s) (subst (λ (k : ℕ). r < k) (sym (s .size)) h)

@@ -1,14 +1,19 @@
--- What holds of the check's sets after every line: each register's set is normal, not empty, and of at most `limit` intervals. The theorem is `check-sets` of proofs/CheckSets.antt. Assumes nothing.
+-- What holds of the check's sets after every line: each register's set is normal, not empty, and of at most `limit` intervals (`check-sets` of proofs/CheckSets.antt);
+-- a hold is judged exactly (`hold-exact` of proofs/Holds.antt); and the 528 numbers show the sets (`sets-shown` of proofs/Slots.antt). Assumes nothing.
 use lib.IntN.{ℤ}
-use lib.ListN.{length, take}
+use lib.ListN.{length, getD, take}
 use mathlib.Core.Path.{_≡_}
-use mathlib.Core.List.{List}
-use Prim.Native.Nat.{ℕ, _≤_}
-use Rattle.meaning.specs.Outcome.{Outcome, done, stopped}
+use mathlib.Core.List.{List, []}
+use Prim.Native.Nat.{ℕ, _<_, _≤_}
+use Rattle.meaning.specs.Refusals.{holdBroken}
+use Rattle.meaning.specs.Lists.{over}
+use Rattle.meaning.specs.Number.{Between}
+use Rattle.meaning.specs.Outcome.{Res, ok, stop, Outcome, done, stopped}
 use Rattle.meaning.specs.NumberIntervals.{Set, _∈_, Normal}
-use Rattle.meaning.specs.Sheet.{registers, Line}
+use Rattle.meaning.specs.Sheet.{registers, hold, Line}
 use Rattle.meaning.specs.Text.{sheet, read}
-use Rattle.meaning.specs.Check.{Bands, at, check}
+use Rattle.meaning.specs.Run.{worked}
+use Rattle.meaning.specs.Check.{Bands, at, checkAct, check, checkText, layout, setIn, shipLimit}
 
 pub record SoundSet (limit : ℕ) (s : Set) : Type 0 where
   pub normal : Normal s
@@ -27,3 +32,26 @@ stateOf (stopped k n a) = a
 -- after the first n lines, for every n
 abbrev pub CheckSets : Type 0
 CheckSets = (limit : ℕ) (t : List ℕ) (ls : List Line) → 1 ≤ limit → read t ≡ sheet ls → (n : ℕ) → SoundBands limit (stateOf (check limit (take n ls)))
+
+-- ---- a hold is judged exactly
+
+-- a member that is not from lo to hi
+pub record Outside (lo hi : ℤ) (s : Set) : Type 0 where
+  pub member : ℤ
+  pub member-in : member ∈ s
+  pub outside : Between lo member hi → ⊥
+
+-- it passes and alters nothing just when every member is inside; 21 just when some member is outside
+pub record HoldIs (limit : ℕ) (B : Bands) (r : ℕ) (lo hi : ℤ) : Type 0 where
+  pub passes : checkAct limit B (hold r lo hi) ≡ ok B → (z : ℤ) → z ∈ at (B .sets) r → Between lo z hi
+  pub passes-if : ((z : ℤ) → z ∈ at (B .sets) r → Between lo z hi) → checkAct limit B (hold r lo hi) ≡ ok B
+  pub breaks : checkAct limit B (hold r lo hi) ≡ stop holdBroken → Outside lo hi (at (B .sets) r)
+  pub breaks-if : Outside lo hi (at (B .sets) r) → checkAct limit B (hold r lo hi) ≡ stop holdBroken
+
+abbrev pub HoldExact : Type 0
+HoldExact = (limit : ℕ) (B : Bands) (r : ℕ) (lo hi : ℤ) → Normal (at (B .sets) r) → HoldIs limit B r lo hi
+
+-- ---- each register's set reads back from what a passed check leaves, whatever the slice held
+
+abbrev pub SetsShown : Type 0
+SetsShown = (t : List ℕ) (n : ℕ) (B : Bands) → checkText shipLimit t ≡ worked n (done B) → (old : List ℤ) (r : ℕ) → r < registers → setIn (over (layout (B .sets)) old) r ≡ getD (B .sets) r []

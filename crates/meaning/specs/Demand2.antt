@@ -4,12 +4,14 @@ use lib.IntN.{ℤ, pos}
 use lib.ListN.{length}
 use mathlib.Core.Path.{_≡_}
 use mathlib.Core.Bool.{Bool, true, false}
+use mathlib.Core.List.{List}
 use mathlib.Core.Logic.{_⊎_}
 use mathlib.Core.Option.{Option, some}
 use Prim.Native.Nat.{ℕ, _≤_}
-use Rattle.meaning.specs.Number.{Op1, neg, abs, Op2, add, sub, div, rem, point1, point2}
-use Rattle.meaning.specs.Interval.{Proper, PairOp, negPair, absPair, addPair, subPair, mulPair, divPair, remPair}
-use Rattle.meaning.specs.NumberIntervals.{Set, _∈_, Normal, rebuild, union, intersect, set1, set2, flag2}
+use Rattle.meaning.specs.Lists.{All}
+use Rattle.meaning.specs.Number.{Op1, neg, abs, not′, Op2, add, sub, mul, div, rem, le, lt, ne, and, or, point1, point2}
+use Rattle.meaning.specs.Interval.{Interval, Proper, PairOp, negPair, absPair, addPair, subPair, mulPair, divPair, remStep, remPair}
+use Rattle.meaning.specs.NumberIntervals.{Set, _∈_, Normal, rebuild, union, intersect, set1, set2, flag1, flag2}
 
 -- z is the point result of a member, or of a member of each set
 pub record Result1 (o : Op1) (a : Set) (z : ℤ) : Type 0 where
@@ -38,10 +40,22 @@ Only1 o = (a : Set) (z : ℤ) → Normal a → z ∈ set1 o a → Result1 o a z
 abbrev pub Only2 : Op2 → Type 0
 Only2 o = (a b : Set) (z : ℤ) → Normal a → Normal b → z ∈ set2 o a b → Result2 o a b z
 
--- the flag is set just when the left set has a member and 0 is in the right one
+-- the flag is the left set's flag, or set since the left set has a member and 0 is in the right one; otherwise it is not set
 pub record FlagIs (o : Op2) : Type 0 where
-  pub set-if : (a b : Set) (x : ℤ) → Normal a → Normal b → x ∈ a → pos 0 ∈ b → flag2 o false a b ≡ true
+  pub kept : (a b : Set) → flag2 o true a b ≡ true
+  pub set-if : (flag : Bool) (a b : Set) (x : ℤ) → Normal a → Normal b → x ∈ a → pos 0 ∈ b → flag2 o flag a b ≡ true
   pub only-if : (a b : Set) → Normal a → Normal b → flag2 o false a b ≡ true → ((x : ℤ) × (x ∈ a)) × (pos 0 ∈ b)
+
+-- the flag is the left set's flag
+abbrev pub Keeps1 : Op1 → Type 0
+Keeps1 o = (flag : Bool) → flag1 o flag ≡ flag
+
+abbrev pub Keeps2 : Op2 → Type 0
+Keeps2 o = (flag : Bool) (a b : Set) → flag2 o flag a b ≡ flag
+
+-- the flag is false
+abbrev pub Clears2 : Op2 → Type 0
+Clears2 o = (flag : Bool) (a b : Set) → flag2 o flag a b ≡ false
 
 -- at most k intervals for one interval, or one pair
 abbrev pub Few1 : ℕ → (ℤ → ℤ → Set) → Type 0
@@ -67,9 +81,20 @@ pub record Demand2 : Type 0 where
   pub normal2 : (o : Op2) (a b : Set) → Normal a → Normal b → Normal (set2 o a b)
   pub union-normal : (a b : Set) → Normal a → Normal b → Normal (union a b)
   pub intersect-normal : (a b : Set) → Normal a → Normal b → Normal (intersect a b)
-  -- the flag of div and rem
+  -- the flag
   pub div-flag : FlagIs div
   pub rem-flag : FlagIs rem
+  pub neg-flag : Keeps1 neg
+  pub abs-flag : Keeps1 abs
+  pub add-flag : Keeps2 add
+  pub sub-flag : Keeps2 sub
+  pub mul-flag : Keeps2 mul
+  pub not-flag : (flag : Bool) → flag1 not′ flag ≡ false
+  pub le-flag : Clears2 le
+  pub lt-flag : Clears2 lt
+  pub ne-flag : Clears2 ne
+  pub and-flag : Clears2 and
+  pub or-flag : Clears2 or
   -- the work of one pair: 2, 12 and 16 intervals
   pub neg-few : Few1 2 negPair
   pub abs-few : Few1 2 absPair
@@ -78,5 +103,11 @@ pub record Demand2 : Type 0 where
   pub mul-few : Few2 2 mulPair
   pub div-few : Few2 12 divPair
   pub rem-few : Few2 16 remPair
+  -- each "by" in the rules of rem is the whole rule list again: the falling number never ends it
+  pub rem-rules : (s e t f : ℤ) → Proper s e → Proper t f → remPair s e t f ≡ remStep remPair s e t f
+  -- the join of intervals in any order is normal and keeps just the members
+  pub join-normal : (l : List Interval) → All (λ i. Proper (i .lo) (i .hi)) l → Normal (rebuild l)
+  pub join-holds : (l : List Interval) (z : ℤ) → All (λ i. Proper (i .lo) (i .hi)) l → z ∈ l → z ∈ rebuild l
+  pub join-only : (l : List Interval) (z : ℤ) → All (λ i. Proper (i .lo) (i .hi)) l → z ∈ rebuild l → z ∈ l
   -- a set is fixed by its members, so the way of joining does not matter
   pub unique : (a b : Set) → Normal a → Normal b → ((z : ℤ) → z ∈ a → z ∈ b) → ((z : ℤ) → z ∈ b → z ∈ a) → a ≡ b

@@ -61,7 +61,7 @@ absPair s e =
 
 -- ---- exact ranges on the circle of 2^64 numbers
 
--- [MIN,MAX]; [u,v]; [u,MAX] and [MIN,v]. Here u and v are wrapped numbers, and MIN and MAX the ends that the rule itself writes
+-- [MIN,MAX]; [u,v]; [u,MAX] and [MIN,v]. Here u and v are wrapped numbers by their places, which windows 0 and 1 turn round, and MIN and MAX the ends that the rule itself writes
 pub data Spread : Type 0 where
   whole : Spread
   one : ℤ → ℤ → Spread

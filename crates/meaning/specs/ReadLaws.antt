@@ -1,7 +1,9 @@
 -- What reading makes sure of (01, "Sheet"): the line finder and the cut by the text's bytes, the sheet cut after line n, and the lines of a text that is not refused.
 -- The theorem is `read-laws` of proofs/Fine.antt. Assumes nothing.
+use lib.Dec.{eqb}
 use lib.ListN.{length, take}
 use mathlib.Core.Path.{_≡_}
+use mathlib.Core.Bool.{cond}
 use mathlib.Core.List.{List, [], _∷_, _++_}
 use Prim.Native.Nat.{ℕ, suc, _<_}
 use Rattle.meaning.specs.Lists.{All}
@@ -10,8 +12,14 @@ use Rattle.meaning.specs.Text.{lines, lineAt, cut, sheet, read}
 
 -- ---- the line finder
 
--- line 0 and a line that has no LF are empty; the cut after line n + 1 is the cut after line n, then line n + 1, then its LF; and no line has an LF in it
+-- how many LFs there are
+abbrev pub feeds : List ℕ → ℕ
+feeds [] = 0
+feeds (b ∷ t) = cond (eqb b 10) (suc (feeds t)) (feeds t)
+
+-- there are as many lines as LFs; line 0 and a line that has no LF are empty; the cut after line n + 1 is the cut after line n, then line n + 1, then its LF; and no line has an LF in it
 pub record LineAt (t : List ℕ) : Type 0 where
+  pub count : length (lines t) ≡ feeds t
   pub none : lineAt t 0 ≡ []
   pub within : (n : ℕ) → n < length (lines t) → cut t (suc n) ≡ cut t n ++ (lineAt t (suc n) ++ 10 ∷ [])
   pub past : (n : ℕ) → length (lines t) < n → lineAt t n ≡ []

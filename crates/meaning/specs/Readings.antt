@@ -8,7 +8,7 @@ use mathlib.Core.Option.{Option, none, some}
 use Prim.Native.Nat.{_-_, _^_}
 use Rattle.meaning.specs.Number.{MIN, MAX, neg, abs, not′, add, mul, div, rem, le, lt, ne, and, or, point1, point2, next, prev}
 use Rattle.meaning.specs.Interval.{span}
-use Rattle.meaning.specs.NumberIntervals.{set1, set2, flag2, union}
+use Rattle.meaning.specs.NumberIntervals.{set1, set2, flag1, flag2, union}
 
 pub record Readings : Type 0 where
   -- −1 × 1 is 0: division by 1000 goes toward 0
@@ -36,6 +36,9 @@ pub record Readings : Type 0 where
   pub empty-and-five : set2 and [] (span (pos 5) (pos 5)) ≡ []
   pub empty-or-five : set2 or [] (span (pos 5) (pos 5)) ≡ span (pos 1000) (pos 1000)
   pub empty-not : set1 not′ [] ≡ []
+  -- not {5} is {0}, not {0} is {1000}
+  pub not-five : set1 not′ (span (pos 5) (pos 5)) ≡ span (pos 0) (pos 0)
+  pub not-zero : set1 not′ (span (pos 0) (pos 0)) ≡ span (pos 1000) (pos 1000)
   -- sets that share nothing are not equal, the empty ones too
   pub empty-ne : set2 ne [] [] ≡ span (pos 1000) (pos 1000)
   -- {0} before {1000}
@@ -63,6 +66,8 @@ pub record Readings : Type 0 where
   pub rem-negative : set2 rem (span MIN MIN) (span (pos 5) (pos 7)) ≡ span (negsuc 5) (pos 0)
   -- (d): L holds MIN and more
   pub rem-against : set2 rem (span MIN (negsuc (2 ^ 63 - 2))) (span MIN MIN) ≡ span MIN (pos 0)
+  -- (a), (b), (c), (d), (f), one in the other: [MIN,5] rem [MIN,0]
+  pub rem-nested : set2 rem (span MIN (pos 5)) (span MIN (pos 0)) ≡ span MIN (pos (2 ^ 63 - 2))
   pub abs-both-sides : set1 abs (span (negsuc 0) (pos 1)) ≡ span (pos 0) (pos 1)
   pub abs-only-least : set1 abs (span MIN MIN) ≡ span MIN MIN
   -- [1,2] and [3,4] touch
@@ -72,3 +77,9 @@ pub record Readings : Type 0 where
   -- an empty left set finds no zero
   pub empty-left-flag : flag2 div false [] (span (pos 0) (pos 0)) ≡ false
   pub zero-flag : flag2 rem false (span (pos 7) (pos 7)) (span (negsuc 0) (pos 1)) ≡ true
+  -- the left set's flag is kept, also where the divisor holds no 0; comparisons and and, or, not clear it
+  pub flag-kept-add : flag2 add true [] [] ≡ true
+  pub flag-kept-div : flag2 div true (span (pos 7) (pos 7)) (span (pos 1) (pos 1)) ≡ true
+  pub flag-kept-abs : flag1 abs true ≡ true
+  pub flag-cleared-le : flag2 le true [] [] ≡ false
+  pub flag-cleared-not : flag1 not′ true ≡ false

@@ -37,7 +37,7 @@ startNumbers lent = replicate registers (pos 0)
 unfoldable pub run : List ℤ → List Line → Outcome (List ℤ)
 run lent ls = work (runLine lent) 1 (startNumbers lent) ls
 
--- the state after line 0 is the start; line N works on the state after line N − 1
+-- the state after line 0 is the start; line N works on the state after line N − 1 (for N up to the line count: what stands for a line past the last one is never asked for)
 unfoldable pub stateAfter : List ℤ → List Line → ℕ → Outcome (List ℤ)
 stateAfter lent ls zero = done (startNumbers lent)
 stateAfter lent ls (suc n) = nextLine (runLine lent) (suc n) (stateAfter lent ls n) (getD ls n (act (hold 0 (pos 0) (pos 0))))

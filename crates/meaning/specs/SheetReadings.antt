@@ -1,19 +1,19 @@
--- Values that pin the readings of docs/DECISIONS.md: set calls, texts, run and check. Each line is a case where another reading would give another answer. Proved by computation
+-- Values that pin readings of docs/DECISIONS.md and sentences of document 01: set calls, texts, run and check. Each line is a case where another reading would give another answer. Proved by computation
 -- in proofs/SheetReadings.antt. Assumes nothing.
 use lib.IntN.{ℤ, pos, negsuc}
-use lib.ListN.{replicate}
+use lib.ListN.{drop, replicate}
 use mathlib.Core.Path.{_≡_}
 use mathlib.Core.Bool.{true}
 use mathlib.Core.List.{List, [], _∷_, _++_}
 use Rattle.meaning.specs.Refusals.{notNormal, tooMany, tooShort, noRoom, misshapen, ungrammatical, farLiteral, misplaced, crowded, zeroDivisor, holdBroken, outsideIn}
 use Rattle.meaning.specs.Outcome.{stop, done, stopped}
-use Rattle.meaning.specs.Number.{MIN, MAX, neg, sub, rem, le, or}
+use Rattle.meaning.specs.Number.{MIN, MAX, neg, abs, sub, mul, div, rem, le, or}
 use Rattle.meaning.specs.Interval.{span}
-use Rattle.meaning.specs.SetCalls.{refusal, refusal2, factor2, need2, written, refused, returns1, out1, work1}
+use Rattle.meaning.specs.SetCalls.{refusal, refusal2, factor1, factor2, need1, need2, written, refused as notWritten, returns1, out1, work1}
 use Rattle.meaning.specs.Sheet.{lit, reg, form1, form2, put, hold, act}
 use Rattle.meaning.specs.Text.{sheet, noSheet, read, lineAt, cut}
-use Rattle.meaning.specs.Run.{worked, runText, verdict, runCall, runLent}
-use Rattle.meaning.specs.Check.{startSets, settle, checkText, checkCall, slot}
+use Rattle.meaning.specs.Run.{refused, worked, runText, verdict, runCall, leftBy, runLent}
+use Rattle.meaning.specs.Check.{startSets, settle, checkText, checkCall, slot, setsLeftBy, workLeftBy}
 
 pub record SheetReadings : Type 0 where
   -- 33 numbers are too many, 31 are odd
@@ -27,15 +27,18 @@ pub record SheetReadings : Type 0 where
   pub left-first : refusal2 (pos 5 ∷ pos 1 ∷ []) (replicate 34 (pos 0)) ≡ notNormal
   -- 16 intervals by 16 in rem need all of 8192
   pub full-need : need2 (factor2 rem) (replicate 32 (pos 0)) (replicate 32 (pos 0)) ≡ 8192
+  pub div-need : need2 (factor2 div) (replicate 4 (pos 0)) (replicate 2 (pos 0)) ≡ 48
+  pub mul-need : need2 (factor2 mul) (replicate 4 (pos 0)) (replicate 2 (pos 0)) ≡ 8
+  pub abs-need : need1 (factor1 abs) (replicate 4 (pos 0)) ≡ 8
   -- neg {1} writes 2 numbers; what lies past the answer and past the need of 4 stays
   pub neg-returns : returns1 neg (pos 1 ∷ pos 1 ∷ []) true (replicate 3 (pos 9)) (replicate 5 (pos 7)) ≡ written 2 true
   pub neg-out : out1 neg (pos 1 ∷ pos 1 ∷ []) true (replicate 3 (pos 9)) (replicate 5 (pos 7)) ≡ negsuc 0 ∷ negsuc 0 ∷ pos 9 ∷ []
   pub neg-work : work1 neg (pos 1 ∷ pos 1 ∷ []) true (replicate 3 (pos 9)) (replicate 5 (pos 7)) ≡ pos 0 ∷ pos 0 ∷ pos 0 ∷ pos 0 ∷ pos 7 ∷ []
   -- 3 comes before 4 and leaves all as lent
-  pub short-work : returns1 neg (pos 1 ∷ pos 1 ∷ []) true [] (replicate 3 (pos 7)) ≡ refused tooShort
+  pub short-work : returns1 neg (pos 1 ∷ pos 1 ∷ []) true [] (replicate 3 (pos 7)) ≡ notWritten tooShort
   pub short-work-left : work1 neg (pos 1 ∷ pos 1 ∷ []) true [] (replicate 3 (pos 7)) ≡ replicate 3 (pos 7)
   -- 4 leaves out as lent and zeroes the need
-  pub short-out : returns1 neg (pos 1 ∷ pos 1 ∷ []) true (pos 9 ∷ []) (replicate 5 (pos 7)) ≡ refused noRoom
+  pub short-out : returns1 neg (pos 1 ∷ pos 1 ∷ []) true (pos 9 ∷ []) (replicate 5 (pos 7)) ≡ notWritten noRoom
   pub short-out-left : out1 neg (pos 1 ∷ pos 1 ∷ []) true (pos 9 ∷ []) (replicate 5 (pos 7)) ≡ pos 9 ∷ []
   pub short-out-work : work1 neg (pos 1 ∷ pos 1 ∷ []) true (pos 9 ∷ []) (replicate 5 (pos 7)) ≡ pos 0 ∷ pos 0 ∷ pos 0 ∷ pos 0 ∷ pos 7 ∷ []
   -- the empty text is a sheet
@@ -86,6 +89,7 @@ pub record SheetReadings : Type 0 where
   pub line-zero : lineAt (97 ∷ 10 ∷ 98 ∷ []) 0 ≡ []
   pub line-one : lineAt (97 ∷ 10 ∷ 98 ∷ []) 1 ≡ 97 ∷ []
   pub line-two : lineAt (97 ∷ 10 ∷ 98 ∷ []) 2 ≡ []
+  pub line-three : lineAt (97 ∷ 10 ∷ 98 ∷ []) 3 ≡ []
   -- a cut keeps its LFs
   pub cut-one : cut (97 ∷ 10 ∷ 98 ∷ 10 ∷ []) 1 ≡ 97 ∷ 10 ∷ []
   -- 22 on line 2: register 0 has its lent number, register 1 still 0
@@ -106,3 +110,14 @@ pub record SheetReadings : Type 0 where
   pub untouched-slot : slot (span (pos 0) (pos 0)) ≡ pos 1 ∷ replicate 32 (pos 0)
   -- 9 comes before 20 at one form
   pub crowded-before-zero : settle 0 (span (pos 1) (pos 1)) true ≡ stop crowded
+  -- a refusal leaves the lent numbers of the run, and the sets and the work of the check; so does a finding the sets
+  pub refused-lent : leftBy (pos 7 ∷ []) (refused misshapen 0) ≡ pos 7 ∷ []
+  pub refused-sets : setsLeftBy (pos 7 ∷ []) (refused misshapen 0) ≡ pos 7 ∷ []
+  pub refused-work : workLeftBy (pos 7 ∷ []) (refused misshapen 0) ≡ pos 7 ∷ []
+  pub finding-sets : setsLeftBy (pos 7 ∷ []) (worked 1 (stopped zeroDivisor 1 startSets)) ≡ pos 7 ∷ []
+  -- a pass and a finding zero just the first 8192 numbers of work
+  pub pass-work : drop 8191 (workLeftBy (replicate 8193 (pos 7)) (worked 0 (done startSets))) ≡ pos 0 ∷ pos 7 ∷ []
+  pub finding-work : drop 8191 (workLeftBy (replicate 8193 (pos 7)) (worked 1 (stopped zeroDivisor 1 startSets))) ≡ pos 0 ∷ pos 7 ∷ []
+  -- a stop has count 0, a pass number 0 and line 0
+  pub stop-count : verdict (worked 3 (stopped zeroDivisor 2 startSets)) ≡ record { number = zeroDivisor; line = 2; count = 0 }
+  pub pass-count : verdict (worked 3 (done startSets)) ≡ record { number = 0; line = 0; count = 3 }

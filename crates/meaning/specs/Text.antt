@@ -34,7 +34,7 @@ unfoldable pub lineAt : List ℕ → ℕ → List ℕ
 lineAt t zero = []
 lineAt t (suc n) = getD (lines t) n []
 
--- the first n lines with their LFs
+-- the first n lines with their LFs; the whole text where it has fewer LFs
 unfoldable pub cut : List ℕ → ℕ → List ℕ
 cut [] n = []
 cut (b ∷ t) zero = []

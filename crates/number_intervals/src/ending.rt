@@ -13,7 +13,7 @@ ghost use Rattle.meaning.specs.Lists.{over};
 ghost use Rattle.meaning.specs.Refusals.{noRoom};
 ghost use Rattle.meaning.specs.SetCalls as call;
 ghost use Rattle.cores.specs.Cored.{Argument};
-ghost use Rattle.number_intervals.specs.Returning.{returned};
+ghost use Rattle.number_intervals.specs.Returning.{replyFor};
 
 // 2 where a set has over 16 intervals, else 1 where it is not normal, else 0.
 pub fn refusal(s: &[i64]) -> u8
@@ -51,7 +51,7 @@ pub fn need(k: usize, n: usize, m: usize) -> usize
 pub fn hand_out(out: &mut [i64], work: &[i64], count: usize, flag: bool) -> Reply
     requires { ⌜ count ≤ length (now work) ⌝ }
     ensures { λ r.
-        ⌜ (returned r ≡ cond (ltb (length (now (out .entry))) count) (call.refused noRoom) (call.written count flag))
+        ⌜ (r ≡ replyFor (cond (ltb (length (now (out .entry))) count) (call.refused noRoom) (call.written count flag)))
         × (now (out .exit) ≡ cond (ltb (length (now (out .entry))) count) (now (out .entry)) (over (take count (now (work .entry))) (now (out .entry)))) ⌝ }
 {
     if out.len() < count {
@@ -65,7 +65,7 @@ pub fn hand_out(out: &mut [i64], work: &[i64], count: usize, flag: bool) -> Repl
 pub fn finish(out: &mut [i64], work: &mut [i64], need: usize, count: usize, flag: bool) -> Reply
     requires { ⌜ (count ≤ need) × (need ≤ length (now work)) ⌝ }
     ensures { λ r.
-        ⌜ (returned r ≡ cond (ltb (length (now (out .entry))) count) (call.refused noRoom) (call.written count flag))
+        ⌜ (r ≡ replyFor (cond (ltb (length (now (out .entry))) count) (call.refused noRoom) (call.written count flag)))
         × (now (out .exit) ≡ cond (ltb (length (now (out .entry))) count) (now (out .entry)) (over (take count (now (work .entry))) (now (out .entry))))
         × (now (work .exit) ≡ over (replicate need (pos 0)) (now (work .entry))) ⌝ }
 {

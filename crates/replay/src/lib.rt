@@ -1,14 +1,15 @@
 // Stored cases: numbers read from a file, slices filled and compared, and a line of report for each operation. A stored number has eight bytes, the least
-// first, in two's complement. What a file holds is open, so the calls that read one promise only that they are safe and end.
+// first, in two's complement. What a file holds is open: a call that reads one promises at most whether there is room for it.
 ghost use mathlib.Core.Path.{_≡_};
 ghost use mathlib.Core.Bool.{true, false, cond};
-ghost use Prim.Native.Nat.{_+_, _-_, _*_, _^_, _<_, min};
-ghost use lib.Dec.{leb};
+ghost use Prim.Native.Nat.{_+_, _-_, _*_, _^_, _<_, _≤_};
+ghost use lib.Dec.{leb, eqb};
 ghost use lib.ListN.{length, replicate};
 ghost use lib.IntN.{pos};
 ghost use Rattle.meaning.specs.Lists.{over};
 ghost use Rattle.meaning.specs.Number.{wrap};
 ghost use Rattle.replay.specs.Stored.{bitsAt};
+ghost use Rattle.replay.specs.Tallied.{more as oneMore, tallied};
 use libc::STDOUT_FILENO;
 
 // A byte as a length.
@@ -77,7 +78,9 @@ pub fn read_front(fd: i32, s: &mut [i64], n: usize) -> bool
 }
 
 // The next n bytes of the file, at the front of s; false if s or the file is too short.
-pub fn read_bytes(fd: i32, s: &mut [u8], n: usize) -> bool {
+pub fn read_bytes(fd: i32, s: &mut [u8], n: usize) -> bool
+    ensures { λ r. ⌜ (r ≡ true → n ≤ length (now (s .entry))) ⌝ }
+{
     if n > s.len() {
         return false;
     }
@@ -143,14 +146,16 @@ pub struct Tally {
 
 // One more than n, but for the greatest number.
 fn more(n: u64) -> u64
-    ensures { λ r. ⌜ r ≡ min (n + 1) (2 ^ 64 - 1) ⌝ }
+    ensures { λ r. ⌜ r ≡ oneMore n ⌝ }
 {
     if n < u64::MAX { n + 1 } else { n }
 }
 
-// The number of the first case that differs: `now`, unless one differed before.
-fn first_of(differ: u64, before: u64, now: u64) -> u64 {
-    if differ == 0 { now } else { before }
+// The number of the first case that differs: the last, unless one differed before.
+fn first_of(differ: u64, before: u64, last: u64) -> u64
+    ensures { λ r. ⌜ r ≡ cond (eqb differ 0) last before ⌝ }
+{
+    if differ == 0 { last } else { before }
 }
 
 impl Tally {
@@ -175,7 +180,7 @@ impl Tally {
 
     // One case more, which agrees.
     pub fn agreed(mut self) -> Self
-        ensures { λ r. ⌜ (r .open ≡ self .open) × (r .cases ≡ min (self .cases + 1) (2 ^ 64 - 1)) × (r .differ ≡ self .differ) × (r .first ≡ self .first) ⌝ }
+        ensures { λ r. ⌜ (r .open ≡ self .open) × (r .cases ≡ oneMore (self .cases)) × (r .differ ≡ self .differ) × (r .first ≡ self .first) ⌝ }
     {
         self.cases = more(self.cases);
         self
@@ -183,7 +188,7 @@ impl Tally {
 
     // One case more, which differs.
     pub fn differed(mut self) -> Self
-        ensures { λ r. ⌜ (r .open ≡ self .open) × (r .cases ≡ min (self .cases + 1) (2 ^ 64 - 1)) × (r .differ ≡ min (self .differ + 1) (2 ^ 64 - 1)) ⌝ }
+        ensures { λ r. ⌜ (r .open ≡ self .open) × (r .cases ≡ oneMore (self .cases)) × (r .differ ≡ oneMore (self .differ)) × (r .first ≡ cond (eqb (self .differ) 0) (oneMore (self .cases)) (self .first)) ⌝ }
     {
         self.cases = more(self.cases);
         self.first = first_of(self.differ, self.first, self.cases);
@@ -192,7 +197,9 @@ impl Tally {
     }
 
     // With one case more.
-    pub fn counted(self, step: Step) -> Self {
+    pub fn counted(self, step: Step) -> Self
+        ensures { λ r. ⌜ r ≡ tallied step self ⌝ }
+    {
         match step {
             Step::End => self.closed(),
             Step::Agrees => self.agreed(),

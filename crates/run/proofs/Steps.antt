@@ -1,6 +1,6 @@
 -- One line on the state, and all of them in order. Assumes nothing.
 use mathlib.Core.Path.{_≡_, refl, sym, ap, subst, _∙_}
-use mathlib.Core.Bool.{true, false}
+use mathlib.Core.Bool.{Bool, true, false, cond}
 use mathlib.Core.List.{List, _∷_, _++_, append-nil}
 use Prim.Native.Nat.{ℕ, _+_, _-_, _≤_, _<_}
 use native.Mathlib.Omega.{arith}
@@ -14,24 +14,28 @@ use Rattle.meaning.specs.Outcome.{Res, ok, stop, bind, Outcome, done, stopped, 
 use Rattle.meaning.specs.Number.{within}
 use Rattle.meaning.specs.Sheet.{registers, Form, put, hold, Line, input, act, FineAct, FineLine}
 use Rattle.meaning.specs.Reading.{got, arg, tree, readLine}
-use Rattle.meaning.specs.Text.{Read, sheet, noSheet, read}
-use Rattle.meaning.specs.Run.{valueOf, runAct, runLine, startNumbers, run, refused, worked, judge, runText, runCall}
+use Rattle.meaning.specs.Text.{read}
+use Rattle.meaning.specs.Run.{valueOf, runAct, runLine, startNumbers, run, Judged, refused, worked, judge, runText, verdict, runCall, leftBy, runLent}
+use Rattle.meaning.proofs.Integers.{by-test}
 use Rattle.meaning.proofs.Work.{ok-same, bind-ok, guard-ok}
 use Rattle.meaning.proofs.Fine.{read-line-fine}
 use Rattle.forms.specs.Answer.{lineFrom}
 use Rattle.forms.specs.declared.LineForm.{LineForm}
 use Rattle.forms.specs.declared.LineForm.the-variants as line
 use Rattle.forms.proofs.Lines.{put-reads}
-use Rattle.sheet.specs.Answer.{judgementFor}
+use Rattle.sheet.specs.Answer.{judgementFor, IsSheet}
 use Rattle.sheet.specs.declared.Judgement.{Judgement}
 use Rattle.sheet.specs.declared.Judgement.the-variants as judgement
 use Rattle.sheet.specs.Feed.{feed}
+use Rattle.sheet.proofs.Judging.{refused-read}
 use Rattle.sheet.proofs.Walk.{Walk, Next, walk-start, walk-next, walk-done}
-use Rattle.run.specs.Answer.{resOf, points, putValue, lineRun, stepOf, stateLeft, Stepped, IsSheet}
+use Rattle.run.specs.Answer.{resOf, points, putValue, goIf, lineRun, stepOf, stateLeft, Stepped, verdictOf, answerFor, Ran}
 use Rattle.run.specs.declared.Num.{Num}
 use Rattle.run.specs.declared.Num.the-variants as num
 use Rattle.run.specs.declared.Step.{Step}
 use Rattle.run.specs.declared.Step.the-variants as step
+use Rattle.run.specs.declared.Answer.{Answer}
+use Rattle.run.specs.declared.Answer.the-variants as answer
 use Rattle.run.proofs.Points.{put-value}
 
 -- ---- one line
@@ -40,11 +44,11 @@ module _ (lent state : List ℤ) (s : List ℕ) (l : LineForm) (el : lineFrom s 
   abbrev Does : Step → List ℤ → Type 0
   Does k after = Stepped k after state (lineRun lent state s)
 
-  goes : {s′ : List ℤ} → lineRun lent state s ≡ ok s′ → Does step.Go s′
-  goes e = record { step = sym e; left = sym (ap (stateLeft state) e) }
+  goes : {k : Step} {after : List ℤ} → k ≡ step.Go → lineRun lent state s ≡ ok after → Does k after
+  goes {k} {after} d e = record { step = ap (λ (x : Step). stepOf x after) d ∙ sym e; left = sym (ap (stateLeft state) e) }
 
-  halts : {k : ℕ} → lineRun lent state s ≡ stop k → Does (step.Stop k) state
-  halts e = record { step = sym e; left = sym (ap (stateLeft state) e) }
+  halts : {k : Step} {after : List ℤ} {n : ℕ} → k ≡ step.Stop n → after ≡ state → lineRun lent state s ≡ stop n → Does k after
+  halts {k} {after} d b e = record { step = ap (λ (x : Step). stepOf x after) d ∙ sym e; left = b ∙ sym (ap (stateLeft state) e) }
 
   reads-as : {x : Line} → readLine s ≡ ok x → lineRun lent state s ≡ runLine lent state x
   unfolding lineRun bind
@@ -55,7 +59,7 @@ module _ (lent state : List ℤ) (s : List ℕ) (l : LineForm) (el : lineFrom s 
   refused-is e = rw e
 
   pub refused-halts : {k : ℕ} → l ≡ line.Refused k → Does (step.Stop k) state
-  refused-halts e = halts (refused-is (sym el ∙ ap (lineFrom s) e))
+  refused-halts e = halts refl refl (refused-is (sym el ∙ ap (lineFrom s) e))
 
   module _ {r : ℕ} {lo hi : ℤ} (e : l ≡ line.In r lo hi) where
     in-line : readLine s ≡ ok (input r lo hi)
@@ -65,13 +69,13 @@ module _ (lent state : List ℤ) (s : List ℕ) (l : LineForm) (el : lineFrom s 
     unfolding FineLine
     in-there = read-line-fine s in-line .there
 
-    pub in-goes : {v : ℤ} → v ≡ getD lent r (pos 0) → within lo (getD lent r (pos 0)) hi ≡ true → Does step.Go (set state r v)
+    pub in-steps : {v : ℤ} {fits : Bool} {after : List ℤ} {k : Step} → v ≡ getD lent r (pos 0) → fits ≡ within lo (getD lent r (pos 0)) hi → after ≡ cond fits (set state r v) state
+        → k ≡ goIf fits 22 → Does k after
     unfolding runLine
-    in-goes q t = goes (reads-as in-line ∙ rw (t, q))
-
-    pub in-halts : within lo (getD lent r (pos 0)) hi ≡ false → Does (step.Stop 22) state
-    unfolding runLine
-    in-halts t = halts (reads-as in-line ∙ rw t)
+    in-steps {v} {fits} {after} {k} q w a d =
+        by-test fits
+        (λ t. let b : set state r (getD lent r (pos 0)) ≡ after = sym (a ∙ rw (t, q)) in goes (d ∙ rw t) (reads-as in-line ∙ rw (sym w ∙ t, b)))
+        (λ t. halts {n = 22} (d ∙ rw t) (a ∙ rw t) (reads-as in-line ∙ rw (sym w ∙ t)))
 
   module _ {r : ℕ} {lo hi : ℤ} (e : l ≡ line.Hold r lo hi) where
     hold-line : readLine s ≡ ok (act (hold r lo hi))
@@ -81,13 +85,10 @@ module _ (lent state : List ℤ) (s : List ℕ) (l : LineForm) (el : lineFrom s 
     unfolding FineLine FineAct
     hold-there = read-line-fine s hold-line .there
 
-    pub hold-goes : within lo (getD state r (pos 0)) hi ≡ true → Does step.Go state
+    pub hold-steps : {held : Bool} {k : Step} → held ≡ within lo (getD state r (pos 0)) hi → k ≡ goIf held 21 → Does k state
     unfolding runLine runAct
-    hold-goes t = goes (reads-as hold-line ∙ rw t)
-
-    pub hold-halts : within lo (getD state r (pos 0)) hi ≡ false → Does (step.Stop 21) state
-    unfolding runLine runAct
-    hold-halts t = halts (reads-as hold-line ∙ rw t)
+    hold-steps {held} {k} w d =
+        by-test held (λ t. goes (d ∙ rw t) (reads-as hold-line ∙ rw (sym w ∙ t))) (λ t. halts {n = 21} (d ∙ rw t) refl (reads-as hold-line ∙ rw (sym w ∙ t)))
 
   module _ {r j : ℕ} (e : l ≡ line.Put r j) where
     put-line : (f : Form) × (n : ℕ) × (arg tree 7 (drop j s) ≡ got f n) × (readLine s ≡ ok (act (put r f)))
@@ -103,13 +104,13 @@ module _ (lent state : List ℤ) (s : List ℕ) (l : LineForm) (el : lineFrom s 
         let p = put-line in
         reads-as (p .3) ∙ ap (λ (a : Res ℤ). bind a (λ z. ok (set state r z))) (sym (w ∙ put-value state (drop j s) (p .2) (read-line-fine s (p .3) .1)))
 
-    pub put-goes : (v : Num) {z : ℤ} → resOf v ≡ putValue (arg (points state) 7 (drop j s)) → v ≡ num.Is z → Does step.Go (set state r z)
+    pub put-goes : (v : Num) {z : ℤ} {after : List ℤ} → resOf v ≡ putValue (arg (points state) 7 (drop j s)) → v ≡ num.Is z → after ≡ set state r z → Does step.Go after
     unfolding bind
-    put-goes v w q = goes (put-is v w ∙ ap (λ (u : Num). bind (resOf u) (λ z. ok (set state r z))) q)
+    put-goes v w q a = goes refl (put-is v w ∙ ap (λ (u : Num). bind (resOf u) (λ z. ok (set state r z))) q ∙ ap (λ (x : List ℤ). ok x) (sym a))
 
     pub put-halts : (v : Num) {k : ℕ} → resOf v ≡ putValue (arg (points state) 7 (drop j s)) → v ≡ num.Stop k → Does (step.Stop k) state
     unfolding bind
-    put-halts v w q = halts (put-is v w ∙ ap (λ (u : Num). bind (resOf u) (λ z. ok (set state r z))) q)
+    put-halts v w q = halts refl refl (put-is v w ∙ ap (λ (u : Num). bind (resOf u) (λ z. ok (set state r z))) q)
 
 -- ---- all of them
 
@@ -206,27 +207,33 @@ copied-is lent old h k =
 
 -- ---- the call
 
-pub call-short : (t : List ℕ) (lent : List ℤ) → length lent < registers → runCall t lent ≡ refused 3 0
-unfolding runCall
-call-short t lent h = rw (lt-ltb (length lent) registers h)
+-- the answer says the verdict
+answer-verdict : (x : Judged (List ℤ)) → verdictOf (answerFor x) ≡ verdict x
+answer-verdict (refused k l) = refl
+answer-verdict (worked n (done s)) = refl
+answer-verdict (worked n (stopped k l s)) = refl
 
-module _ (t : List ℕ) (lent : List ℤ) (h : registers ≤ length lent) where
-  pub call-text : runCall t lent ≡ runText lent t
+module _ (t : List ℕ) (lent : List ℤ) where
+  ran-is : {r : Answer} {lent′ : List ℤ} (x : Judged (List ℤ)) → runCall t lent ≡ x → r ≡ answerFor x → lent′ ≡ leftBy lent x → Ran t lent r lent′
+  unfolding runLent
+  ran-is x e a l = record {
+    verdict-is = ap verdictOf a ∙ answer-verdict x ∙ ap verdict (sym e);
+    answer-is = a ∙ ap answerFor (sym e);
+    lent-left = l ∙ ap (leftBy lent) (sym e);
+  }
+
+  pub ran-short : length lent < registers → Ran t lent (answer.Refused 3 0) lent
   unfolding runCall
-  call-text = rw (le-ltb (length lent) registers h)
+  ran-short h = ran-is (refused 3 0) (rw (lt-ltb (length lent) registers h)) refl refl
 
-  module _ {j : Judgement} (ej : j ≡ judgementFor (read t)) where
-    pub call-sheet : {n : ℕ} → j ≡ judgement.Fine n → IsSheet t n
-    call-sheet {n} e = go (read t) refl (sym ej ∙ e)
-      where
-        go : (x : Read) → read t ≡ x → judgementFor x ≡ judgement.Fine n → IsSheet t n
-        go (sheet ls) r q = record { lines = ls; reads = r; count = cc }
-        go (noSheet k m) r q = let z : _≡_ {A = ℕ} 0 1 = cc in absurd (omega arith)
+  module _ (h : registers ≤ length lent) where
+    pub call-text : runCall t lent ≡ runText lent t
+    unfolding runCall
+    call-text = rw (le-ltb (length lent) registers h)
 
-    pub call-refused : {k n : ℕ} → j ≡ judgement.Refused k n → runCall t lent ≡ refused k n
+    pub ran-refused : {j : Judgement} → j ≡ judgementFor (read t) → {k n : ℕ} → j ≡ judgement.Refused k n → Ran t lent (answer.Refused k n) lent
     unfolding runText
-    call-refused {k} {n} e = call-text ∙ go (read t) (sym ej ∙ e)
-      where
-        go : (x : Read) → judgementFor x ≡ judgement.Refused k n → judge (run lent) x ≡ refused k n
-        go (sheet ls) q = let z : _≡_ {A = ℕ} 0 1 = cc in absurd (omega arith)
-        go (noSheet k′ n′) q = cc
+    ran-refused ej {k} {n} e = ran-is (refused k n) (call-text ∙ ap (judge (run lent)) (refused-read t ej e)) refl refl
+
+    pub ran-worked : {r : Answer} {lent′ : List ℤ} → r ≡ answerFor (runText lent t) → lent′ ≡ leftBy lent (runText lent t) → Ran t lent r lent′
+    ran-worked a l = ran-is (runText lent t) call-text a l

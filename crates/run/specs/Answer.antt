@@ -1,16 +1,15 @@
 -- What each answer of the code says, in the words of `meaning`. Assumes nothing.
 use lib.IntN.{ℤ, pos}
-use lib.ListN.{length, getD}
+use lib.ListN.{getD}
+use mathlib.Core.Bool.{Bool, cond}
 use mathlib.Core.List.{List}
 use mathlib.Core.Path.{_≡_}
 use Prim.Native.Nat.{ℕ}
 use Rattle.meaning.specs.Refusals.{ungrammatical, zeroDivisor}
-use Rattle.meaning.specs.Outcome.{Res, ok, stop, bind, orStop}
+use Rattle.meaning.specs.Outcome.{Res, ok, stop, bind, orStop, done, stopped}
 use Rattle.meaning.specs.Number.{Op1, Op2, point1, point2}
-use Rattle.meaning.specs.Sheet.{Line}
 use Rattle.meaning.specs.Reading.{Got, got, bad, Algebra, readLine}
-use Rattle.meaning.specs.Text.{sheet, read}
-use Rattle.meaning.specs.Run.{runLine, Verdict}
+use Rattle.meaning.specs.Run.{runLine, Verdict, verdict, Judged, refused, worked, runCall, runLent}
 use Rattle.forms.specs.Answer.{kept}
 use Rattle.run.specs.declared.Num.{Num}
 use Rattle.run.specs.declared.Num.the-variants as num
@@ -49,6 +48,10 @@ abbrev pub putValue : Got (Res ℤ) → Res ℤ
 putValue (got a n) = a
 putValue bad = stop ungrammatical
 
+-- a line is worked, or stops with k
+abbrev pub goIf : Bool → ℕ → Step
+goIf good k = cond good step.Go (step.Stop k)
+
 -- the line's result: the state after it, or the number that stopped it
 abbrev pub stepOf : Step → List ℤ → Res (List ℤ)
 stepOf step.Go state = ok state
@@ -64,13 +67,20 @@ pub record Stepped (k : Step) (after before : List ℤ) (r : Res (List ℤ)) : T
   pub step : stepOf k after ≡ r
   pub left : after ≡ stateLeft before r
 
+-- done has number 0, line 0 and the line count, anything else its number and its line
 abbrev pub verdictOf : Answer → Verdict
 verdictOf (answer.Done n) = record { number = 0; line = 0; count = n }
 verdictOf (answer.Stopped k l) = record { number = k; line = l; count = 0 }
 verdictOf (answer.Refused k l) = record { number = k; line = l; count = 0 }
 
--- the text reads as a sheet of n lines
-pub record IsSheet (t : List ℕ) (n : ℕ) : Type 0 where
-  pub lines : List Line
-  pub reads : read t ≡ sheet lines
-  pub count : length lines ≡ n
+-- the answer for what the run comes to: 3 and 5 to 8 refuse, 20, 21 and 22 stop a line
+abbrev pub answerFor : Judged (List ℤ) → Answer
+answerFor (refused k l) = answer.Refused k l
+answerFor (worked n (done s)) = answer.Done n
+answerFor (worked n (stopped k l s)) = answer.Stopped k l
+
+-- a call of the run: what it answers, and what it leaves in its slice
+pub record Ran (t : List ℕ) (lent : List ℤ) (r : Answer) (lent′ : List ℤ) : Type 0 where
+  pub verdict-is : verdictOf r ≡ verdict (runCall t lent)
+  pub answer-is : r ≡ answerFor (runCall t lent)
+  pub lent-left : lent′ ≡ runLent t lent

@@ -1,8 +1,9 @@
 // The run of a sheet (01, "Plain run"): one number a register, and point values straight from the bytes, with no tree between.
 // The lent numbers are copied first: an `in` reads them as they were lent, whatever is written to the slice afterwards.
 ghost use mathlib.Core.Path.{_≡_};
-ghost use Prim.Native.Nat.{_≤_};
-ghost use lib.ListN.{length, drop};
+ghost use mathlib.Core.Bool.{cond};
+ghost use Prim.Native.Nat.{_≤_, _<_};
+ghost use lib.ListN.{length, set, drop};
 ghost use Rattle.meaning.specs.Refusals.{zeroDivisor};
 ghost use Rattle.meaning.specs.Outcome.{orStop};
 ghost use Rattle.meaning.specs.Number.{point1, point2, within as withinOf};
@@ -11,7 +12,8 @@ ghost use Rattle.meaning.specs.Reading.{arg as argAt, form as formAt, closed as
 ghost use Rattle.meaning.specs.Run.{verdict, runCall, runLent, runText, leftBy};
 ghost use Rattle.number.specs.Maybe.{maybe};
 ghost use Rattle.forms.specs.Answer.{op1Of, op2Of};
-ghost use Rattle.run.specs.Answer.{resOf, valueGot, with1, with2, points, putValue, lineRun, Stepped, verdictOf, IsSheet};
+ghost use Rattle.sheet.specs.Answer.{IsSheet};
+ghost use Rattle.run.specs.Answer.{resOf, valueGot, with1, with2, points, putValue, goIf, lineRun, Stepped, verdictOf, answerFor};
 use forms::Head;
 use forms::LineForm;
 use forms::Literal;
@@ -192,6 +194,23 @@ fn value_at(text: &[u8], j: usize, state: &[i64; 16]) -> Num
     }
 }
 
+// The line is worked, or stops with k.
+fn go_if(good: bool, k: u8) -> Step
+    ensures { λ r. ⌜ r ≡ goIf good k ⌝ }
+{
+    if good { Step::Go } else { Step::Stop(k) }
+}
+
+// Register r takes x if the line is worked; a line that stops leaves it.
+fn take(state: &mut [i64; 16], r: usize, x: i64, worked: bool)
+    requires { ⌜ r < registers ⌝ }
+    ensures { λ _. ⌜ now (state .exit) ≡ cond worked (set (now (state .entry)) r x) (now (state .entry)) ⌝ }
+{
+    if worked {
+        state[r] = x;
+    }
+}
+
 // One line on the state: a stop leaves the state as it was.
 fn run_line(text: &[u8], lent: &[i64; 16], state: &mut [i64; 16]) -> Step
     ensures { λ r. ⌜ Stepped r (now (state .exit)) (now (state .entry)) (lineRun (now (lent .entry)) (now (state .entry)) (now (text .entry))) ⌝ }
@@ -199,27 +218,18 @@ fn run_line(text: &[u8], lent: &[i64; 16], state: &mut [i64; 16]) -> Step
     match read_line(text) {
         LineForm::In(r, lo, hi) => {
             let x = lent[r];
-            if within(lo, x, hi) {
-                state[r] = x;
-                Step::Go
-            } else {
-                Step::Stop(22)
-            }
+            let fits = within(lo, x, hi);
+            take(state, r, x, fits);
+            go_if(fits, 22)
         }
         LineForm::Put(r, j) => match value_at(text, j, state) {
             Num::Is(z) => {
-                state[r] = z;
+                take(state, r, z, true);
                 Step::Go
             }
             Num::Stop(k) => Step::Stop(k),
         },
-        LineForm::Hold(r, lo, hi) => {
-            if within(lo, state[r], hi) {
-                Step::Go
-            } else {
-                Step::Stop(21)
-            }
-        }
+        LineForm::Hold(r, lo, hi) => go_if(within(lo, state[r], hi), 21),
         LineForm::Refused(k) => Step::Stop(k),
     }
 }
@@ -228,7 +238,7 @@ fn run_line(text: &[u8], lent: &[i64; 16], state: &mut [i64; 16]) -> Step
 fn work(text: &[u8], lent: &mut [i64], count: usize) -> Answer
     requires { ⌜ registers ≤ length (now lent) ⌝ }
     requires { ⌜ IsSheet (now text) count ⌝ }
-    ensures { λ r. ⌜ verdictOf r ≡ verdict (runText (now (lent .entry)) (now (text .entry))) ⌝ }
+    ensures { λ r. ⌜ r ≡ answerFor (runText (now (lent .entry)) (now (text .entry))) ⌝ }
     ensures { λ r. ⌜ now (lent .exit) ≡ leftBy (now (lent .entry)) (runText (now (lent .entry)) (now (text .entry))) ⌝ }
 {
     let mut given = [0; 16];
@@ -253,6 +263,7 @@ fn work(text: &[u8], lent: &mut [i64], count: usize) -> Answer
 // The run of any bytes on the numbers lent for the registers.
 pub fn run(text: &[u8], lent: &mut [i64]) -> Answer
     ensures { λ r. ⌜ verdictOf r ≡ verdict (runCall (now (text .entry)) (now (lent .entry))) ⌝ }
+    ensures { λ r. ⌜ r ≡ answerFor (runCall (now (text .entry)) (now (lent .entry))) ⌝ }
     ensures { λ r. ⌜ now (lent .exit) ≡ runLent (now (text .entry)) (now (lent .entry)) ⌝ }
 {
     if lent.len() < 16 {

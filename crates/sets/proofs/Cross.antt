@@ -13,6 +13,7 @@ use Rattle.meaning.specs.Lists.{over}
 use Rattle.meaning.specs.Number.{larger}
 use Rattle.meaning.specs.NumberIntervals.{flat, intervals, intersect}
 use Rattle.meaning.proofs.Integers.{leZ-false, leZ-true}
+use Rattle.meaning.proofs.Machine.{rd}
 use Rattle.sorting.specs.Order.{In, Le, Lt, Valid, putPair, valid}
 use Rattle.sorting.proofs.Ends.{Gap, valid-yes, valid-pair, After, NormalEnds, larger-parts}
 use Rattle.sorting.proofs.Steps.{end-at, drop-two, put-pair-length, put-pair-take, put-pair-drop, drop-later}
@@ -203,6 +204,15 @@ pub record Crossing (l r old new : List ℤ) (i j at : ℕ) : Type 0 where
   pub whole-l : Valid (drop i l)
   pub whole-r : Valid (drop j r)
   pub so-far : take at new ++ cross (drop i l) (drop j r) ≡ cross l r
+
+-- the intervals at i and j as a turn reads them, and the larger start
+pub record Turn (l r : List ℤ) (i j : ℕ) (lo : ℤ) : Type 0 where
+  pub some-l : i < length l
+  pub some-r : j < length r
+  pub e-back : rd (end-at l (i + 1)) ≡ end-at l (i + 1)
+  pub d-back : rd (end-at r (j + 1)) ≡ end-at r (j + 1)
+  pub lo-back : rd lo ≡ lo
+  pub lo-is : lo ≡ larger (end-at l i) (end-at r j)
 
 pub crossing-start : (l r old : List ℤ) → length l + length r ≤ length old → valid l ≡ true → valid r ≡ true → Crossing l r old old 0 0 0
 crossing-start l r old h v u =

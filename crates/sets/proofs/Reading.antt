@@ -11,12 +11,18 @@ use lib.Signed.{leZ}
 use Rattle.meaning.specs.Lists.{All}
 use Rattle.meaning.specs.Number.{InRange, within}
 use Rattle.meaning.specs.NumberIntervals.{apart, normal, intervals, startsAfter, contains}
-use Rattle.meaning.proofs.Integers.{and-left}
+use lib.Dec.{leb}
+use borrow.Author.Tests.{leb-true, leb-false}
+use Rattle.meaning.proofs.Integers.{by-test, and-left}
 use Rattle.sorting.proofs.Steps.{end-at, drop-one, drop-two, drop-last}
 
 regroup : (a b c : Bool) → (a && (b && c)) ≡ ((a && b) && c)
 regroup true b c = refl
 regroup false b c = refl
+
+and-true : (a : Bool) → (a && true) ≡ a
+and-true true = refl
+and-true false = refl
 
 module _ (s : List ℤ) (i : ℕ) where
   pub normal-end : length s ≤ i → normal (drop i s) ≡ true
@@ -31,25 +37,22 @@ module _ (s : List ℤ) (i : ℕ) where
   unfolding normal
   normal-two h = rw (drop-two s i h)
 
+  pub normal-one : i + 2 ≡ length s → normal (drop i s) ≡ leZ (end-at s i) (end-at s (i + 1))
+  unfolding normal
+  normal-one h = normal-two (omega arith) ∙ rw (drop-of-length-le s {i = i + 2} (omega arith)) (and-true (leZ (end-at s i) (end-at s (i + 1))))
+
   pub normal-not : i + 2 ≤ length s → (leZ (end-at s i) (end-at s (i + 1)) && startsAfter (end-at s (i + 1)) (drop (i + 2) s)) ≡ false → normal (drop i s) ≡ false
   normal-not h e = normal-two h ∙ regroup (leZ (end-at s i) (end-at s (i + 1))) (startsAfter (end-at s (i + 1)) (drop (i + 2) s)) (normal (drop (i + 2) s)) ∙ and-left (normal (drop (i + 2) s)) e
 
   pub normal-so : i + 2 ≤ length s → (leZ (end-at s i) (end-at s (i + 1)) && startsAfter (end-at s (i + 1)) (drop (i + 2) s)) ≡ true → normal (drop i s) ≡ normal (drop (i + 2) s)
   normal-so h e = normal-two h ∙ regroup (leZ (end-at s i) (end-at s (i + 1))) (startsAfter (end-at s (i + 1)) (drop (i + 2) s)) (normal (drop (i + 2) s)) ∙ ap (λ (t : Bool). t && normal (drop (i + 2) s)) e
 
-  pub after-end : (e : ℤ) → length s ≤ i → startsAfter e (drop i s) ≡ true
-  after-end e h = rw (drop-of-length-le s h)
-
   pub after-more : (e : ℤ) → i < length s → startsAfter e (drop i s) ≡ apart e (end-at s i)
   after-more e h = rw (drop-one s i h)
 
-  pub contains-end : (z : ℤ) → length s ≤ i → contains z (intervals (drop i s)) ≡ false
+  pub contains-short : (z : ℤ) → length s < i + 2 → contains z (intervals (drop i s)) ≡ false
   unfolding contains intervals
-  contains-end z h = rw (drop-of-length-le s h)
-
-  pub contains-last : (z : ℤ) → i < length s → length s < i + 2 → contains z (intervals (drop i s)) ≡ false
-  unfolding contains intervals
-  contains-last z h k = rw (drop-last s i h k)
+  contains-short z k = by-test (leb (length s) i) (λ y. rw (drop-of-length-le s (leb-true (length s) i y))) (λ n. rw (drop-last s i (leb-false (length s) i n) k))
 
   pub contains-two : (z : ℤ) → i + 2 ≤ length s → contains z (intervals (drop i s)) ≡ (within (end-at s i) z (end-at s (i + 1)) || contains z (intervals (drop (i + 2) s)))
   unfolding contains intervals

@@ -20,9 +20,9 @@ use sorting::put_pair;
 use sorting::sort_big;
 use sorting::sort_part;
 
-// The interval at i has its start at most its end, and the next one is apart from it.
+// The interval at i has its start at most its end, and the next one, which is there, is apart from it.
 pub fn fine_at(s: &[i64], i: usize) -> bool
-    requires { ⌜ i + 2 ≤ length (now s) ⌝ }
+    requires { ⌜ i + 2 < length (now s) ⌝ }
     ensures { λ r.
         ⌜ r ≡ (leZ (getD (now (s .entry)) i (pos 0)) (getD (now (s .entry)) (i + 1) (pos 0))
         && startsAfter (getD (now (s .entry)) (i + 1) (pos 0)) (drop (i + 2) (now (s .entry)))) ⌝
@@ -31,14 +31,8 @@ pub fn fine_at(s: &[i64], i: usize) -> bool
 {
     let a = s[i];
     let b = s[i + 1];
-    if !le(a, b) {
-        return false;
-    }
-    if s.len() - i == 2 {
-        return true;
-    }
     let c = s[i + 2];
-    apart(b, c)
+    if le(a, b) { apart(b, c) } else { false }
 }
 
 // Sorted, no overlap, at least one number missing between neighbours; an odd length is not normal.
@@ -47,16 +41,21 @@ pub fn is_normal(s: &[i64]) -> bool
 {
     let n = s.len();
     let mut i = 0;
-    while i < n {
-        if n - i < 2 {
-            return false;
-        }
+    while n - i > 2 {
         if !fine_at(s, i) {
             return false;
         }
         i += 2;
     }
-    true
+    if i == n {
+        return true;
+    }
+    if n - i < 2 {
+        return false;
+    }
+    let a = s[i];
+    let b = s[i + 1];
+    le(a, b)
 }
 
 // x is in the interval at i.
@@ -73,10 +72,7 @@ pub fn contains(s: &[i64], x: i64) -> bool
 {
     let n = s.len();
     let mut i = 0;
-    while i < n {
-        if n - i < 2 {
-            return false;
-        }
+    while n - i > 1 {
         if holds_at(s, i, x) {
             return true;
         }

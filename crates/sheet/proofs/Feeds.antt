@@ -1,18 +1,20 @@
 -- The lines of a text by where each one ends. Assumes nothing.
 use mathlib.Core.Path.{_≡_, refl, sym, ap, _∙_}
-use mathlib.Core.Bool.{Bool, true, false, _&&_}
-use mathlib.Core.List.{List, [], _∷_}
+use mathlib.Core.Bool.{Bool, true, false, cond, _&&_}
+use mathlib.Core.List.{List, [], _∷_, _++_}
 use Prim.Native.Nat.{ℕ, zero, suc, _+_, _-_, _≤_, _<_}
 use native.Mathlib.Omega.{arith}
 use native.Mathlib.Numerals.{add-one, sub-one}
 use native.Mathlib.Nat.{add-zero, zero-add}
 use lib.Dec.{eqb, leb}
-use lib.ListN.{length, getD, take, drop, drop-of-length-le, length-drop}
+use lib.ListN.{length, getD, take, drop, drop-of-length-le, length-drop, length-append}
 use lib.Seq.{drop-cons, drop-drop, drop-length, getD-drop, length-take-le}
 use borrow.Author.Tests.{eq-eqb, ne-eqb, le-leb, lt-leb, leb-true, leb-false}
-use Rattle.meaning.specs.Text.{Split, front, splitLines, lines, lineAt, narrow, empty, shaped}
+use Rattle.meaning.specs.Text.{Split, front, splitLines, lines, lineAt, cut, narrow, empty, shaped}
 use Rattle.meaning.proofs.Integers.{by-test, cond-case}
-use Rattle.sheet.specs.Feed.{feed, Behind}
+use Rattle.meaning.proofs.Cut.{cut-past, line-at}
+use Rattle.forms.proofs.Words.{no-other}
+use Rattle.sheet.specs.Feed.{feed}
 
 module _ (s : List ℕ) (i : ℕ) where
   pub feed-more : i < length s → (getD s i 0 ≡ 10 → ⊥) → feed (drop i s) ≡ feed (drop (i + 1) s) + 1
@@ -128,36 +130,64 @@ module _ (s : List ℕ) (at : ℕ) {e : ℕ} (ee : e ≡ at + feed (drop at s)) 
 
 -- ---- the line finder
 
-pub behind-start : (s : List ℕ) → Behind s 0 0
-behind-start s = record { inside = omega arith; lines-left = refl }
+-- what is behind the first k lines starts where the cut ends
+pub lines-behind : (s : List ℕ) (k : ℕ) → lines (drop (length (cut s k)) s) ≡ drop k (lines s)
+unfolding splitLines cut
+lines-behind [] k = sym (drop-none k)
+lines-behind (b ∷ s) zero = refl
+lines-behind (b ∷ s) (suc k) = go (eqb b 10) (lines-behind s)
+  where
+    front-drop : (ls : List (List ℕ)) (r : List ℕ) → drop (suc k) (front b ls r .lines) ≡ drop (suc k) ls
+    front-drop [] r = refl
+    front-drop (l ∷ ls) r = refl
 
-module _ (s : List ℕ) (i at : ℕ) (b : Behind s i at) {e : ℕ} (ee : e ≡ at + feed (drop at s)) where
-  pub behind-next : e < length s → Behind s (i + 1) (e + 1)
-  behind-next h = record {
-    inside = omega arith;
-    lines-left = sym (sym (drop-drop 1 i (lines s)) ∙ ap (drop 1) (sym (b .lines-left) ∙ next-lines s at ee h));
-  }
+    go : (q : Bool) → ((m : ℕ) → lines (drop (length (cut s m)) s) ≡ drop m (lines s))
+        → lines (drop (length (cut s (cond q k (suc k)))) s) ≡ drop (suc k) (cond q (record { lines = [] ∷ lines s; rest = splitLines s .rest }) (front b (lines s) (splitLines s .rest)) .lines)
+    go true ih = ih k
+    go false ih = ih (suc k) ∙ sym (front-drop (lines s) (splitLines s .rest))
+
+pub start-first : (s : List ℕ) → 0 ≡ length (cut s 0)
+unfolding cut
+start-first [] = refl
+start-first (b ∷ s) = refl
+
+-- line i + 1 starts at `at` and ends at e
+module _ (s : List ℕ) (i at : ℕ) (a : at ≡ length (cut s i)) {e : ℕ} (ee : e ≡ at + feed (drop at s)) where
+  lines-left : lines (drop at s) ≡ drop i (lines s)
+  lines-left = ap (λ (n : ℕ). lines (drop n s)) a ∙ lines-behind s i
 
   none-left : length s ≤ e → drop i (lines s) ≡ []
-  none-left h = sym (b .lines-left) ∙ ap (λ (x : Split). x .lines) (last-line s at ee h)
-
-  pub behind-end : (k : ℕ) → length s ≤ e → i ≤ k → Behind s k (length s)
-  behind-end k h l =
-      let n : i + (k - i) ≡ k = omega arith in
-      record {
-        inside = omega arith;
-        lines-left = ap lines (drop-length s) ∙ no-lines ∙ sym (ap (λ (x : ℕ). drop x (lines s)) (sym n) ∙ sym (drop-drop (k - i) i (lines s)) ∙ ap (drop (k - i)) (none-left h) ∙ drop-none (k - i));
-      }
+  none-left h = sym lines-left ∙ ap (λ (x : Split). x .lines) (last-line s at ee h)
 
   pub line-there : e < length s → take (e - at) (drop at s) ≡ getD (lines s) i []
   line-there h =
-      ap (λ (l : List (List ℕ)). getD l 0 []) (sym (next-lines s at ee h) ∙ b .lines-left)
+      ap (λ (l : List (List ℕ)). getD l 0 []) (sym (next-lines s at ee h) ∙ lines-left)
       ∙ getD-drop i (lines s) 0 [] ∙ ap (λ (x : ℕ). getD (lines s) x []) (add-zero i)
 
   pub line-none : length s ≤ e → [] ≡ getD (lines s) i []
   line-none h =
       ap (λ (l : List (List ℕ)). getD l 0 []) (sym (none-left h))
       ∙ getD-drop i (lines s) 0 [] ∙ ap (λ (x : ℕ). getD (lines s) x []) (add-zero i)
+
+  pub line-inside : e < length s → i < length (lines s)
+  line-inside h = omega (arith, ap length (sym (next-lines s at ee h) ∙ lines-left), length-drop i (lines s))
+
+  pub line-long : e < length s → length (lineAt s (suc i)) ≡ e - at
+  unfolding lineAt
+  line-long h = ap length (sym (line-there h)) ∙ length-take-le (e - at) (drop at s) (omega (arith, length-drop at s))
+
+  pub start-next : e < length s → e + 1 ≡ length (cut s (i + 1))
+  start-next h =
+      let l = ap length (line-at s .within i (line-inside h)) ∙ length-append (cut s i) (lineAt s (suc i) ++ 10 ∷ []) in
+      let m = length-append (lineAt s (suc i)) (10 ∷ []) in
+      sym (ap (λ (k : ℕ). length (cut s k)) (add-one i) ∙ l ∙ omega (arith, m, line-long h, a, ee))
+
+  -- fewer lines
+  pub lines-past : length s ≤ e → length (lines s) ≤ i
+  lines-past h = omega (arith, ap length (none-left h), length-drop i (lines s))
+
+  pub start-end : (k : ℕ) → length s ≤ e → i < k → length s ≡ length (cut s k)
+  start-end k h l = ap length (sym (cut-past s k (omega (arith, lines-past h, line-at s .count))))
 
 pub line-zero : (s : List ℕ) (n : ℕ) → n ≡ 0 → [] ≡ lineAt s n
 unfolding lineAt
@@ -176,10 +206,6 @@ shapedFrom n x = leb (n + length (x .lines)) 256 && (narrow (x .lines) && empty 
 
 pub shape-start : (s : List ℕ) → shaped (splitLines s) ≡ shapedFrom 0 (splitLines (drop 0 s))
 shape-start s = rw (zero-add (length (lines s)))
-
-no-other : (x : Bool) → (x && false) ≡ false
-no-other true = refl
-no-other false = refl
 
 module _ (s : List ℕ) (n at : ℕ) {e : ℕ} (ee : e ≡ at + feed (drop at s)) (h : at < length s) where
   pub shape-unended : e ≡ length s → shapedFrom n (splitLines (drop at s)) ≡ false

@@ -25,7 +25,7 @@ use Rattle.forms.proofs.Lines.{refused-some, put-reads}
 use Rattle.sheet.specs.declared.Judgement.{Judgement}
 use Rattle.sheet.specs.declared.Judgement.the-variants as judgement
 use Rattle.sheet.specs.Feed.{feed}
-use Rattle.sheet.specs.Answer.{judgementFor, judgementOf, readVerdict, isAct, admission, takenWith, inRegister}
+use Rattle.sheet.specs.Answer.{judgementFor, judgementOf, readVerdict, IsSheet, isAct, admission, takenWith, inRegister}
 use Rattle.sheet.proofs.Feeds.{next-lines, next-rest, end-lt}
 
 -- the array says which registers are among l
@@ -252,3 +252,20 @@ module _ (l : LineForm) (other : Bool) (taken : List Bool) where
   pub refused-admits : {k : ℕ} → l ≡ line.Refused k → Admits k taken
   unfolding admission takenWith
   refused-admits e = (rw e, rw e)
+
+-- ---- what a judgement says of the text
+
+module _ (t : List ℕ) {j : Judgement} (ej : j ≡ judgementFor (read t)) where
+  pub fine-sheet : {n : ℕ} → j ≡ judgement.Fine n → IsSheet t n
+  fine-sheet {n} e = go (read t) refl (sym ej ∙ e)
+    where
+      go : (x : Read) → read t ≡ x → judgementFor x ≡ judgement.Fine n → IsSheet t n
+      go (sheet ls) r q = record { lines = ls; reads = r; count = cc }
+      go (noSheet k m) r q = let z : _≡_ {A = ℕ} 0 1 = cc in absurd (omega arith)
+
+  pub refused-read : {k n : ℕ} → j ≡ judgement.Refused k n → read t ≡ noSheet k n
+  refused-read {k} {n} e = go (read t) (sym ej ∙ e)
+    where
+      go : (x : Read) → judgementFor x ≡ judgement.Refused k n → x ≡ noSheet k n
+      go (sheet ls) q = let z : _≡_ {A = ℕ} 0 1 = cc in absurd (omega arith)
+      go (noSheet k′ n′) q = cc

@@ -1,10 +1,12 @@
 -- What each answer of the code says, in the words of `meaning`. Assumes nothing.
 use lib.ListN.{length, getD, set}
+use mathlib.Core.Path.{_≡_}
 use mathlib.Core.Bool.{Bool, true, false, cond, _||_}
 use mathlib.Core.List.{List}
 use Prim.Native.Nat.{ℕ}
 use Rattle.meaning.specs.Refusals.{misplaced}
-use Rattle.meaning.specs.Text.{Read, sheet, noSheet}
+use Rattle.meaning.specs.Sheet.{Line}
+use Rattle.meaning.specs.Text.{Read, sheet, noSheet, read}
 use Rattle.meaning.specs.Run.{Verdict}
 use Rattle.forms.specs.declared.LineForm.{LineForm}
 use Rattle.forms.specs.declared.LineForm.the-variants as line
@@ -24,6 +26,12 @@ judgementOf (judgement.Refused k n) = record { number = k; line = n; count = 0 }
 abbrev pub judgementFor : Read → Judgement
 judgementFor (sheet ls) = judgement.Fine (length ls)
 judgementFor (noSheet k n) = judgement.Refused k n
+
+-- the text reads as a sheet of n lines
+pub record IsSheet (t : List ℕ) (n : ℕ) : Type 0 where
+  pub lines : List Line
+  pub reads : read t ≡ sheet lines
+  pub count : length lines ≡ n
 
 -- a line of another kind than `in`
 abbrev pub isAct : LineForm → Bool

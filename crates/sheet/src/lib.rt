@@ -3,10 +3,10 @@
 ghost use mathlib.Core.Path.{_≡_};
 ghost use mathlib.Core.List.{[]};
 ghost use Prim.Native.Nat.{_+_, _<_};
-ghost use lib.ListN.{drop};
+ghost use lib.ListN.{length, drop};
 ghost use Rattle.meaning.specs.Sheet.{registers};
-ghost use Rattle.meaning.specs.Text.{lineAt, splitLines, lines, shaped as shapedText, nothingSeen, readLines, read};
-ghost use Rattle.sheet.specs.Feed.{feed, Behind};
+ghost use Rattle.meaning.specs.Text.{lineAt, cut, splitLines, lines, shaped as shapedText, nothingSeen, readLines, read};
+ghost use Rattle.sheet.specs.Feed.{feed};
 ghost use Rattle.sheet.specs.Answer.{readVerdict, judgementOf, judgementFor, isAct, admission, takenWith, inRegister};
 use forms::LineForm;
 use forms::first;
@@ -34,7 +34,7 @@ pub fn line_end(text: &[u8], at: usize) -> usize
 
 // Where what is behind the first k lines starts; the end of the text if there are fewer.
 pub fn line_start(text: &[u8], k: usize) -> usize
-    ensures { λ r. ⌜ Behind (now (text .entry)) k r ⌝ }
+    ensures { λ r. ⌜ r ≡ length (cut (now (text .entry)) k) ⌝ }
 {
     let mut at = 0;
     let mut i = 0;

@@ -1,76 +1,67 @@
 -- The answer of each operation stands at the front of the work slice, and 8192 numbers are enough for all. Assumes nothing.
-use mathlib.Core.Path.{_≡_, sym}
+use mathlib.Core.Path.{_≡_, refl, ap, _∙_}
 use mathlib.Core.Bool.{Bool, false}
 use mathlib.Core.List.{List}
-use Prim.Native.Nat.{ℕ, _*_, _/_, _≤_}
+use mathlib.Core.Option.{some}
+use Prim.Native.Nat.{ℕ, _≤_}
 use native.Mathlib.Omega.{arith}
-use native.Mathlib.Nat.{mul-le-mul}
-use lib.IntN.{ℤ}
-use lib.ListN.{length}
-use Rattle.meaning.specs.Number.{Op1, neg, abs, not′, Op2, add, sub, mul, div, rem, le, lt, ne, and, or}
-use Rattle.meaning.specs.NumberIntervals.{Set, set1, set2, flag1, flag2, intervals}
-use Rattle.meaning.specs.SetCalls.{factor1, factor2, need1, need2}
-use Rattle.forms.specs.Answer.{op1Of, op2Of}
-use Rattle.forms.specs.declared.Op1.{Op1 as Unary}
-use Rattle.forms.specs.declared.Op2.{Op2 as Binary}
-use Rattle.cores.specs.Cored.{Argument, Cored}
+use lib.IntN.{ℤ, pos}
+use lib.ListN.{length, replicate}
+use Rattle.meaning.specs.Number.{Op1, Op2, add, sub, mul, div, rem}
+use Rattle.meaning.specs.NumberIntervals.{Set, ofBools, set1, set2, flag1, flag2, intervals}
+use Rattle.meaning.specs.SetCalls.{need2}
 use Rattle.cores.specs.declared.Core.{Core}
-use Rattle.sheet_check.specs.Value.{Left}
+use Rattle.cores.specs.declared.Op.{Op}
+use Rattle.cores.specs.declared.Op.the-variants.{Neg, Abs, Add, Sub, Mul, Div, Rem}
+use Rattle.cores.specs.declared.Relation.{Relation}
+use Rattle.cores.specs.Cored.{Argument, Cored}
+use Rattle.cores.specs.Operation.{factorOf, setOf, flagOf, relationOf, Alone}
+use Rattle.cores.proofs.Operations.{alone-is, relation-is, zero-argument}
+use Rattle.cores.proofs.Joined.{bound}
+use Rattle.sheet_check.specs.declared.value.Kind.the-variants.{Joined, Related}
+use Rattle.sheet_check.specs.Value.{Left, kindOf}
 use Rattle.sheet_check.proofs.Settling.{left-cored}
 
-factor1-le : (o : Op1) → factor1 o ≤ 16
-unfolding factor1
-factor1-le neg = omega arith
-factor1-le abs = omega arith
-factor1-le not′ = omega arith
+left-as : {s t : Set} {f g : Bool} {new : List ℤ} {c : Core} → s ≡ t → f ≡ g → Left s f new c → Left t g new c
+left-as p q h = rw (← p, ← q) h
 
-factor2-le : (o : Op2) → factor2 o ≤ 16
-unfolding factor2
-factor2-le add = omega arith
-factor2-le sub = omega arith
-factor2-le mul = omega arith
-factor2-le div = omega arith
-factor2-le rem = omega arith
-factor2-le le = omega arith
-factor2-le lt = omega arith
-factor2-le ne = omega arith
-factor2-le and = omega arith
-factor2-le or = omega arith
+joined-is : (o : Op) (p : Op2) → kindOf (Joined o) ≡ some p → (flag : Bool) (a b : Set) → (setOf o a b ≡ set2 p a b) × (flagOf o flag a b ≡ flag2 p flag a b)
+joined-is Neg p e flag a b = let z : _≡_ {A = ℕ} 0 1 = cc in absurd (omega arith)
+joined-is Abs p e flag a b = let z : _≡_ {A = ℕ} 0 1 = cc in absurd (omega arith)
+joined-is Add p e flag a b = let q : add ≡ p = cc in rw (← q) (refl, refl)
+joined-is Sub p e flag a b = let q : sub ≡ p = cc in rw (← q) (refl, refl)
+joined-is Mul p e flag a b = let q : mul ≡ p = cc in rw (← q) (refl, refl)
+joined-is Div p e flag a b = let q : div ≡ p = cc in rw (← q) (refl, refl)
+joined-is Rem p e flag a b = let q : rem ≡ p = cc in rw (← q) (refl, refl)
 
-product-le : (k a b : ℕ) → k ≤ 16 → a ≤ 16 → b ≤ 16 → 2 * k * a * b ≤ 8192
-product-le k a b h i j =
-    let x : 2 * k ≤ 32 = omega arith in
-    let y : 2 * k * a ≤ 32 * 16 = mul-le-mul x i in
-    let z : 2 * k * a * b ≤ 32 * 16 * 16 = mul-le-mul y j in
-    omega arith
+module _ (o : Op) (l m : List ℤ) (a : Argument l) (b : Argument m) where
+  pub need-le : {k : ℕ} → 8192 ≤ k → need2 (factorOf o) l m ≤ k
+  need-le w = omega (arith, bound o l m a b)
 
-half-le : {l : List ℤ} → Argument l → length l / 2 ≤ 16
-half-le {l} h = let f = h .few in omega arith
+  module _ {old new : List ℤ} (w : 8192 ≤ length old) (n : length new ≡ length old) {c : Core} (h : Cored (setOf o (intervals l) (intervals m)) (flagOf o false (intervals l) (intervals m)) (need2 (factorOf o) l m) old new c) where
+    answered : Left (setOf o (intervals l) (intervals m)) (flagOf o false (intervals l) (intervals m)) new c
+    answered = left-cored h (need-le w) n
 
-pub need1-le : (o : Op1) {l : List ℤ} (w : List ℤ) → Argument l → 8192 ≤ length w → need1 (factor1 o) l ≤ length w
-need1-le o {l} w h k = let p = product-le (factor1 o) (length l / 2) 1 (factor1-le o) (half-le h) (omega arith) in omega arith
+    pub joined-left : {p : Op2} → kindOf (Joined o) ≡ some p → Left (set2 p (intervals l) (intervals m)) (flag2 p false (intervals l) (intervals m)) new c
+    joined-left {p} e = let is = joined-is o p e false (intervals l) (intervals m) in left-as (is .0) (is .1) answered
 
-pub need2-le : (o : Op2) {l m : List ℤ} (w : List ℤ) → Argument l → Argument m → 8192 ≤ length w → need2 (factor2 o) l m ≤ length w
-need2-le o {l} {m} w h i k = let p = product-le (factor2 o) (length l / 2) (length m / 2) (factor2-le o) (half-le h) (half-le i) in omega arith
+pub alone-left : {o : Op} {p : Op1} → Alone o p → (l : List ℤ) → Argument l → {old new : List ℤ} → 8192 ≤ length old → length new ≡ length old → {c : Core}
+    → Cored (setOf o (intervals l) (intervals (replicate 2 (pos 0)))) (flagOf o false (intervals l) (intervals (replicate 2 (pos 0)))) (need2 (factorOf o) l (replicate 2 (pos 0))) old new c
+    → Left (set1 p (intervals l)) (flag1 p false) new c
+alone-left {o} d l a w n h =
+    let is = alone-is d false (intervals l) (intervals (replicate 2 (pos 0))) in
+    left-as (is .0) (is .1) (answered o l (replicate 2 (pos 0)) a zero-argument w n h)
 
-module _ (l : List ℤ) (u : Unary) {o : Op1} (e : op1Of u ≡ o) {new : List ℤ} {c : Core} where
-  pub core1-left : Left (set1 o (intervals l)) (flag1 o false) new c → Left (set1 (op1Of u) (intervals l)) (flag1 (op1Of u) false) new c
-  core1-left h = rw e h
+op-is : {x y : Op2} → some x ≡ some y → x ≡ y
+op-is e = cc
 
-  pub core1-done : {old : List ℤ} → Argument l → 8192 ≤ length old → length new ≡ length old → Cored (set1 o (intervals l)) (flag1 o false) (need1 (factor1 o) l) old new c
-      → Left (set1 (op1Of u) (intervals l)) (flag1 (op1Of u) false) new c
-  core1-done {old} a w n h = core1-left (left-cored h (need1-le o old a w) n)
-
-module _ (l m : List ℤ) (u : Binary) {o : Op2} (e : op2Of u ≡ o) {new : List ℤ} {c : Core} where
-  pub core2-left : Left (set2 o (intervals l) (intervals m)) (flag2 o false (intervals l) (intervals m)) new c
-      → Left (set2 (op2Of u) (intervals l) (intervals m)) (flag2 (op2Of u) false (intervals l) (intervals m)) new c
-  core2-left h = rw e h
-
-  pub core2-done : {old : List ℤ} → Argument l → Argument m → 8192 ≤ length old → length new ≡ length old
-      → Cored (set2 o (intervals l) (intervals m)) (flag2 o false (intervals l) (intervals m)) (need2 (factor2 o) l m) old new c
-      → Left (set2 (op2Of u) (intervals l) (intervals m)) (flag2 (op2Of u) false (intervals l) (intervals m)) new c
-  core2-done {old} a b w n h = core2-left (left-cored h (need2-le o old a b w) n)
+module _ (a b : Set) {new : List ℤ} {c : Core} where
+  pub related-left : (o : Relation) {p : Op2} → kindOf (Related o) ≡ some p → {s : Set} → s ≡ ofBools (relationOf o a b) → Left s false new c → Left (set2 p a b) (flag2 p false a b) new c
+  related-left o {p} e f h =
+      let is = relation-is o false a b in
+      let q = op-is e in
+      left-as (f ∙ is .0 ∙ ap (λ (x : Op2). set2 x a b) q) (is .1 ∙ ap (λ (x : Op2). flag2 x false a b) q) h
 
 -- a set that is the same
 pub left-same : {s t : Set} {flag : Bool} {new : List ℤ} {c : Core} → s ≡ t → Left s flag new c → Left t flag new c
-left-same e h = rw (sym e) h
+left-same e h = left-as e refl h

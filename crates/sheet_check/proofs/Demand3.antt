@@ -1,19 +1,22 @@
 -- Demand 3 for the calls: the contracts say what the calls answer and leave, and `demand3-calls` of `meaning` says that of it which is asked. Assumes nothing.
 use lib.IntN.{ℤ, pos}
-use lib.ListN.{getD}
+use lib.ListN.{getD, length}
 use mathlib.Core.Path.{_≡_, sym, ap, subst, _∙_}
 use mathlib.Core.List.{List}
-use Prim.Native.Nat.{ℕ}
+use Prim.Native.Nat.{ℕ, _≤_}
 use Rattle.meaning.specs.Outcome.{done, stopped}
 use Rattle.meaning.specs.NumberIntervals.{_∈_}
-use Rattle.meaning.specs.Sheet.{Line}
+use Rattle.meaning.specs.Sheet.{registers, Line}
 use Rattle.meaning.specs.Text.{cut}
 use Rattle.meaning.specs.Run.{Judged, refused, worked}
-use Rattle.meaning.specs.Check.{Bands, shipLimit, checkText, checkCall, setIn}
+use Rattle.meaning.specs.Check.{Bands, shipLimit, checkCall, setIn}
+use Rattle.meaning.specs.Demand3.{SafeAt}
 use Rattle.meaning.specs.Demand3Calls.{CallsSafeAt}
 use Rattle.meaning.proofs.Integers.{never}
 use Rattle.meaning.proofs.Demand3.{demand3 as safety}
 use Rattle.meaning.proofs.Demand3Calls.{demand3-calls}
+use Rattle.run.specs.Answer.{answerFor as runAnswerFor}
+use Rattle.run.proofs.Steps.{call-text}
 use Rattle.sheet_check.specs.Answer.{answerFor, isPass}
 use Rattle.sheet_check.specs.Demand3.{SafeAfter, Demand3}
 use Rattle.sheet_check.proofs.Walking.{trouble-no-pass, long-call}
@@ -25,13 +28,13 @@ pass-done (refused k l) e = never (ap isPass e ∙ trouble-no-pass k l)
 pass-done (worked m (done B)) {n} e = let d : m ≡ n = cc in (B, ap (λ (i : ℕ). worked i (done B)) d)
 pass-done (worked m (stopped k l B)) e = never (ap isPass e ∙ trouble-no-pass k l)
 
-after : (lent : List ℤ) (t : List ℕ) (ls : List Line) (m : ℕ) {B : Bands} → CallsSafeAt lent t ls m → checkText shipLimit (cut t m) ≡ worked m (done B) → SafeAfter lent t ls m
-after lent t ls m a p = record {
+after : (lent : List ℤ) (t : List ℕ) (ls xs : List Line) (m : ℕ) → registers ≤ length lent → CallsSafeAt lent t ls m → SafeAt shipLimit lent t xs m → SafeAfter lent t ls m
+after lent t ls xs m k a s = record {
   state = a .state;
   reaches = a .reaches;
-  passes = λ sets work r sets′ work′ h c. c .answer-is ∙ ap answerFor (long-call (cut t m) sets work (h .sets-long) (h .work-long) ∙ p);
+  passes = λ sets work r sets′ work′ h c. c .answer-is ∙ ap answerFor (long-call (cut t m) sets work (h .sets-long) (h .work-long) ∙ s .passes);
   members = λ sets work r sets′ work′ h c q b. subst (λ (l : List ℤ). getD (a .state) q (pos 0) ∈ setIn l q) (sym (c .sets-left)) (a .members sets work h q b);
-  runs = λ v lent′ c. c .verdict-is ∙ a .runs;
+  runs = λ v lent′ c. c .answer-is ∙ ap runAnswerFor (call-text (cut t m) lent k ∙ s .runs);
   leaves = λ v lent′ c q b. ap (λ (l : List ℤ). getD l q (pos 0)) (c .lent-left) ∙ a .leaves q b;
 }
 
@@ -40,4 +43,4 @@ demand3 t sets work sets′ work′ lent n h k c i =
     let p = pass-done (checkCall t sets work) (c .answer-is) in
     let s = safety shipLimit t n (p .0) lent (sym (long-call t sets work (h .sets-long) (h .work-long)) ∙ p .1) i in
     let q = demand3-calls t sets work lent n h k (sym (c .verdict-is)) i in
-    record { lines = q .lines; reads = q .reads; count = q .count; each = λ m b. after lent t (q .lines) m (q .each m b) (s .each m b .passes); whole = q .whole }
+    record { lines = q .lines; reads = q .reads; count = q .count; each = λ m b. after lent t (q .lines) (s .lines) m k (q .each m b) (s .each m b); whole = q .whole }

@@ -15,8 +15,8 @@ use Rattle.meaning.specs.Lists.{over}
 use Rattle.meaning.specs.Outcome.{Res, ok, bind, done, stopped, work}
 use Rattle.meaning.specs.Sheet.{Line}
 use Rattle.meaning.specs.Reading.{readLine}
-use Rattle.meaning.specs.Text.{Read, sheet, noSheet, read}
-use Rattle.meaning.specs.Run.{verdict, Judged, refused, worked}
+use Rattle.meaning.specs.Text.{sheet, read}
+use Rattle.meaning.specs.Run.{verdict, Judged, refused, worked, judge}
 use Rattle.meaning.specs.Check.{Bands, checkLine, startSets, check, checkText, layout, setsNeed, workNeed, shipLimit, checkCall, setsLeftBy, workLeftBy, checkSets, checkWork}
 use Rattle.meaning.specs.CheckSets.{SoundBands}
 use Rattle.meaning.proofs.Integers.{never, by-test}
@@ -27,13 +27,14 @@ use Rattle.meaning.proofs.Slots.{length-shown}
 use Rattle.meaning.proofs.Demand2.{demand2}
 use Rattle.meaning.proofs.CheckSets.{Kept, start-kept, line-kept, kept-sound}
 use Rattle.sheet.specs.Feed.{feed}
-use Rattle.sheet.specs.Answer.{judgementFor}
+use Rattle.sheet.specs.Answer.{judgementFor, IsSheet}
 use Rattle.sheet.specs.declared.Judgement.{Judgement}
 use Rattle.sheet.specs.declared.Judgement.the-variants as judgement
 use Rattle.sheet.proofs.Feeds.{end-lt}
+use Rattle.sheet.proofs.Judging.{refused-read}
 use Rattle.sheet.proofs.Walk.{Walk, Next, walk-start, walk-next, walk-done}
 use Rattle.sheet_check.specs.Value.{Shown}
-use Rattle.sheet_check.specs.Answer.{verdictOf, troubleOf, answerFor, isPass, lineCheck, Worked, IsSheet, Checked, Called}
+use Rattle.sheet_check.specs.Answer.{verdictOf, troubleOf, answerFor, isPass, lineCheck, Worked, Checked, Called}
 use Rattle.sheet_check.specs.declared.Answer.{Answer}
 use Rattle.sheet_check.specs.declared.Answer.the-variants as answer
 
@@ -214,18 +215,7 @@ module _ (t : List ℕ) (sets work : List ℤ) where
   module _ (k : 528 ≤ length sets) (h : 8192 ≤ length work) {j : Judgement} (ej : j ≡ judgementFor (read t)) where
     pub called-refused : {q l : ℕ} {r : Answer} → j ≡ judgement.Refused q l → r ≡ troubleOf q l → Called t sets work r sets work
     unfolding checkText
-    called-refused {q} {l} {r} e v = go (read t) refl (sym ej ∙ e)
-      where
-        go : (x : Read) → read t ≡ x → judgementFor x ≡ judgement.Refused q l → Called t sets work r sets work
-        go (sheet ls) d y = absurd (let z : _≡_ {A = ℕ} 0 1 = cc in omega arith)
-        go (noSheet a b) d y = let p : a ≡ q = cc in let p′ : b ≡ l = cc in call-is (refused q l) (long-call k h ∙ rw (d, p, p′)) v refl refl
-
-    pub is-sheet : {n : ℕ} → j ≡ judgement.Fine n → IsSheet t n
-    is-sheet {n} e = go (read t) refl (sym ej ∙ e)
-      where
-        go : (x : Read) → read t ≡ x → judgementFor x ≡ judgement.Fine n → IsSheet t n
-        go (sheet ls) d y = record { lines = ls; reads = d; count = cc }
-        go (noSheet a b) d y = absurd (let z : _≡_ {A = ℕ} 0 1 = cc in omega arith)
+    called-refused {q} {l} e v = call-is (refused q l) (long-call k h ∙ ap (judge (check shipLimit)) (refused-read t ej e)) v refl refl
 
     pub called-worked : {r : Answer} {sets′ work′ : List ℤ} → r ≡ answerFor (checkText shipLimit t) → sets′ ≡ setsLeftBy sets (checkText shipLimit t)
         → work′ ≡ workLeftBy work (checkText shipLimit t) → Called t sets work r sets′ work′

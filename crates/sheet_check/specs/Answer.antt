@@ -8,9 +8,7 @@ use mathlib.Core.List.{List, _∷_, _++_}
 use Prim.Native.Nat.{ℕ, _+_, _*_}
 use Rattle.meaning.specs.Refusals.{ungrammatical, zeroDivisor, holdBroken}
 use Rattle.meaning.specs.Outcome.{Res, ok, stop, bind, done, stopped}
-use Rattle.meaning.specs.Sheet.{Line}
 use Rattle.meaning.specs.Reading.{Got, got, bad, readLine}
-use Rattle.meaning.specs.Text.{sheet, read}
 use Rattle.meaning.specs.Run.{Verdict, verdict, Judged, refused, worked}
 use Rattle.meaning.specs.Check.{Bands, checkLine, slotSize, layout, setsNeed, shipLimit, checkCall, checkSets, checkWork}
 use Rattle.meaning.specs.CheckSets.{SoundBands}
@@ -62,12 +60,6 @@ lineCheck B s = bind (readLine s) (checkLine shipLimit B)
 pub record Worked (k : ℕ) (after before : List ℤ) (s : List ℕ) : Type 0 where
   pub goes : k ≡ 0 → (B : Bands) → SoundBands shipLimit B → before ≡ layout (B .sets) → (B′ : Bands) × (lineCheck B s ≡ ok B′) × (after ≡ layout (B′ .sets))
   pub stops : (k ≡ 0 → ⊥) → (B : Bands) → SoundBands shipLimit B → before ≡ layout (B .sets) → lineCheck B s ≡ stop k
-
--- the text reads as a sheet of n lines
-pub record IsSheet (t : List ℕ) (n : ℕ) : Type 0 where
-  pub lines : List Line
-  pub reads : read t ≡ sheet lines
-  pub count : length lines ≡ n
 
 -- the answer for the lines of a sheet, and the numbers that show the sets after them
 pub record Checked (r : Answer) (after : List ℤ) (x : Judged Bands) : Type 0 where

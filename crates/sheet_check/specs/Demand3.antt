@@ -9,19 +9,15 @@ use Rattle.meaning.specs.Outcome.{done}
 use Rattle.meaning.specs.NumberIntervals.{_∈_}
 use Rattle.meaning.specs.Sheet.{registers, Line}
 use Rattle.meaning.specs.Text.{cut, sheet, read}
-use Rattle.meaning.specs.Run.{verdict, runCall, runLent, stateAfter, LentInside}
+use Rattle.meaning.specs.Run.{stateAfter, LentInside}
 use Rattle.meaning.specs.Check.{setIn}
-use Rattle.meaning.specs.Demand3Calls.{fulfilled, Enough}
-use Rattle.run.specs.Answer.{verdictOf as runVerdict}
+use Rattle.meaning.specs.Demand3Calls.{Enough}
+use Rattle.run.specs.Answer.{Ran}
 use Rattle.run.specs.declared.Answer.{Answer as RunAnswer}
+use Rattle.run.specs.declared.Answer.the-variants as run-answer
 use Rattle.sheet_check.specs.Answer.{Called}
 use Rattle.sheet_check.specs.declared.Answer.{Answer}
 use Rattle.sheet_check.specs.declared.Answer.the-variants as answer
-
--- a call of the run: what its answer says, and what it leaves in its slice
-pub record Ran (t : List ℕ) (lent : List ℤ) (r : RunAnswer) (lent′ : List ℤ) : Type 0 where
-  pub verdict-is : runVerdict r ≡ verdict (runCall t lent)
-  pub lent-left : lent′ ≡ runLent t lent
 
 -- after line m of t, which reads as ls
 pub record SafeAfter (lent : List ℤ) (t : List ℕ) (ls : List Line) (m : ℕ) : Type 0 where
@@ -32,7 +28,7 @@ pub record SafeAfter (lent : List ℤ) (t : List ℕ) (ls : List Line) (m : ℕ)
   pub members : (sets work : List ℤ) (r : Answer) (sets′ work′ : List ℤ) → Enough sets work → Called (cut t m) sets work r sets′ work′
       → (q : ℕ) → q < registers → getD state q (pos 0) ∈ setIn sets′ q
   -- the run of the cut sheet is done, and leaves that state
-  pub runs : (r : RunAnswer) (lent′ : List ℤ) → Ran (cut t m) lent r lent′ → runVerdict r ≡ fulfilled m
+  pub runs : (r : RunAnswer) (lent′ : List ℤ) → Ran (cut t m) lent r lent′ → r ≡ run-answer.Done m
   pub leaves : (r : RunAnswer) (lent′ : List ℤ) → Ran (cut t m) lent r lent′ → (q : ℕ) → q < registers → getD lent′ q (pos 0) ≡ getD state q (pos 0)
 
 pub record SafeCalls (lent : List ℤ) (t : List ℕ) (n : ℕ) : Type 0 where

@@ -5,9 +5,10 @@ use lib.ListN.{length, take, replicate}
 use mathlib.Core.Path.{_≡_}
 use mathlib.Core.Bool.{Bool, false, cond}
 use mathlib.Core.List.{List, _++_}
+use mathlib.Core.Option.{Option, none, some}
 use Prim.Native.Nat.{_-_, _*_, _≤_}
 use Rattle.meaning.specs.Outcome.{Res, ok, stop, bind}
-use Rattle.meaning.specs.Number.{Op1, Op2}
+use Rattle.meaning.specs.Number.{Op1, Op2, add, sub, mul, div, rem}
 use Rattle.meaning.specs.Interval.{only}
 use Rattle.meaning.specs.NumberIntervals.{Set, set1, set2, flag1, flag2, flat, intervals}
 use Rattle.meaning.specs.Reading.{Algebra}
@@ -15,7 +16,11 @@ use Rattle.meaning.specs.Check.{settle, slotSize, layout, setIn, shipLimit}
 use Rattle.meaning.specs.CheckSets.{SoundSet, SoundBands}
 use Rattle.forms.specs.Answer.{kept}
 use Rattle.cores.specs.declared.Core.{Core}
+use Rattle.cores.specs.declared.Op.the-variants as op
+use Rattle.cores.specs.Operation.{op2Of as relationOp}
 use Rattle.sheet_check.specs.declared.value.SetV.{SetV}
+use Rattle.sheet_check.specs.declared.value.Kind.{Kind}
+use Rattle.sheet_check.specs.declared.value.Kind.the-variants.{Joined, Related}
 
 -- the ends of a set in 32 numbers, unused ones 0
 unfoldable pub padded : Set → List ℤ
@@ -63,3 +68,14 @@ pub record Left (answer : Set) (flag : Bool) (new : List ℤ) (c : Core) : Type 
   pub room : c .count ≤ length new
   pub front : take (c .count) new ≡ flat answer
   pub flagged : c .flag ≡ flag
+
+-- the operation on two sets that a kind stands for
+abbrev pub kindOf : Kind → Option Op2
+kindOf (Joined op.Neg) = none
+kindOf (Joined op.Abs) = none
+kindOf (Joined op.Add) = some add
+kindOf (Joined op.Sub) = some sub
+kindOf (Joined op.Mul) = some mul
+kindOf (Joined op.Div) = some div
+kindOf (Joined op.Rem) = some rem
+kindOf (Related o) = some (relationOp o)

@@ -25,8 +25,9 @@ ghost use Rattle.meaning.specs.Sheet.{registers};
 ghost use Rattle.meaning.specs.Reading.{arg as argAt};
 ghost use Rattle.meaning.specs.Run.{verdict};
 ghost use Rattle.meaning.specs.Check.{inside as insideOf, setIn, layout, startSets, setsNeed, workNeed, shipLimit, checkText, checkCall, checkSets, checkWork, setsLeftBy, workLeftBy};
+ghost use Rattle.sheet.specs.Answer.{IsSheet};
 ghost use Rattle.sheet_check.specs.Value.{Shown, values};
-ghost use Rattle.sheet_check.specs.Answer.{verdictOf, troubleOf, answerFor, isPass, given, putValue, holdNumber, Worked, IsSheet, Checked};
+ghost use Rattle.sheet_check.specs.Answer.{verdictOf, troubleOf, answerFor, isPass, given, putValue, holdNumber, Worked, Checked};
 
 // A pass with the count of lines, a finding or a refusal with its number and line.
 pub enum Answer {

@@ -2,10 +2,13 @@
 // A value that stops has no set: its count and its ends are 0.
 use bools::BoolInterval;
 use cores::Core;
+use cores::Op;
+use cores::Relation;
 use forms::Op1;
 use forms::Op2;
 ghost use mathlib.Core.Path.{_≡_};
 ghost use mathlib.Core.Bool.{false};
+ghost use mathlib.Core.Option.{some};
 ghost use Prim.Native.Nat.{_%_, _≤_, _<_};
 ghost use lib.ListN.{length, take};
 ghost use lib.IntN.{pos};
@@ -18,7 +21,7 @@ ghost use Rattle.meaning.specs.Check.{settle as settleOf, setIn, shipLimit};
 ghost use Rattle.forms.specs.Answer.{op1Of, op2Of};
 ghost use Rattle.bools.specs.Reading.{boolsOf};
 ghost use Rattle.cores.specs.Cored.{Argument};
-ghost use Rattle.sheet_check.specs.Value.{valueOf, Sound, Shown, Left, answer1, answer2};
+ghost use Rattle.sheet_check.specs.Value.{valueOf, Sound, Shown, Left, kindOf, answer1, answer2};
 
 pub struct SetV {
     pub stop: u8,
@@ -113,10 +116,35 @@ fn core1(op: Op1, left: &[i64], work: &mut [i64]) -> Core
     requires { ⌜ Argument (now left) × (8192 ≤ length (now work)) ⌝ }
     ensures { λ c. ⌜ Left (set1 (op1Of op) (intervals (now (left .entry)))) (flag1 (op1Of op) false) (now (work .exit)) c ⌝ }
 {
+    let zero = [0i64; 2];
     match op {
-        Op1::Neg => cores::neg::core(work, left, false),
-        Op1::Abs => cores::abs::core(work, left, false),
+        Op1::Neg => cores::answer(Op::Neg, work, left, false, &zero),
+        Op1::Abs => cores::answer(Op::Abs, work, left, false, &zero),
         Op1::Not => put_bools(work, bools::not(bools::of_set(left))),
+    }
+}
+
+// How the answer of an operation on two sets is made: joined of all pairs' results, or 0, 1000 or both.
+pub enum Kind {
+    Joined(Op),
+    Related(Relation),
+}
+
+// The kind of the operation that a form names.
+fn kind_of(op: Op2) -> Kind
+    ensures { λ r. ⌜ kindOf r ≡ some (op2Of op) ⌝ }
+{
+    match op {
+        Op2::Add => Kind::Joined(Op::Add),
+        Op2::Sub => Kind::Joined(Op::Sub),
+        Op2::Mul => Kind::Joined(Op::Mul),
+        Op2::Div => Kind::Joined(Op::Div),
+        Op2::Rem => Kind::Joined(Op::Rem),
+        Op2::Le => Kind::Related(Relation::Le),
+        Op2::Lt => Kind::Related(Relation::Lt),
+        Op2::Ne => Kind::Related(Relation::Ne),
+        Op2::And => Kind::Related(Relation::And),
+        Op2::Or => Kind::Related(Relation::Or),
     }
 }
 
@@ -127,17 +155,9 @@ fn core2(op: Op2, left: &[i64], right: &[i64], work: &mut [i64]) -> Core
         ⌜ Left (set2 (op2Of op) (intervals (now (left .entry))) (intervals (now (right .entry))))
         (flag2 (op2Of op) false (intervals (now (left .entry))) (intervals (now (right .entry)))) (now (work .exit)) c ⌝ }
 {
-    match op {
-        Op2::Add => cores::add::core(work, left, false, right),
-        Op2::Sub => cores::sub::core(work, left, false, right),
-        Op2::Mul => cores::mul::core(work, left, false, right),
-        Op2::Div => cores::div::core(work, left, false, right),
-        Op2::Rem => cores::rem::core(work, left, false, right),
-        Op2::Le => put_bools(work, bools::le(left, right)),
-        Op2::Lt => put_bools(work, bools::lt(left, right)),
-        Op2::Ne => put_bools(work, bools::ne(left, right)),
-        Op2::And => put_bools(work, bools::and(bools::of_set(left), bools::of_set(right))),
-        Op2::Or => put_bools(work, bools::or(bools::of_set(left), bools::of_set(right))),
+    match kind_of(op) {
+        Kind::Joined(o) => cores::answer(o, work, left, false, right),
+        Kind::Related(o) => put_bools(work, cores::rule::relate(o, left, right)),
     }
 }
 

@@ -1,5 +1,9 @@
 // A stored sheet: 32 bytes that say how long its parts are and what is expected, then the text, the numbers lent to the run, the numbers that it leaves,
 // the numbers of the check's sets that are not 0 with their places, and the listing.
+ghost use mathlib.Core.Path.{_≡_};
+ghost use mathlib.Core.Bool.{_&&_};
+ghost use Prim.Native.Nat.{_+_, _*_};
+ghost use lib.Dec.{eqb};
 use replay::fill;
 use replay::fill_front;
 use replay::pair;
@@ -35,7 +39,9 @@ pub struct Case {
     pub end: usize,
 }
 
-fn verdict_in(kind: u8, number: u8, low: u8, high: u8) -> Verdict {
+fn verdict_in(kind: u8, number: u8, low: u8, high: u8) -> Verdict
+    ensures { λ r. ⌜ (r .kind ≡ kind) × (r .number ≡ number) × (r .line ≡ low + 256 * high) ⌝ }
+{
     Verdict {
         kind,
         number,
@@ -62,8 +68,10 @@ pub fn case_in(b: &[u8; 32]) -> Case {
 }
 
 // Whether an answer of this kind, number and line is the one expected.
-pub fn is_expected(e: Verdict, kind: u8, number: u8, line: usize) -> bool {
-    e.kind == kind && e.number == number && e.line == line
+pub fn is_expected(e: Verdict, kind: u8, number: u8, line: usize) -> bool
+    ensures { λ r. ⌜ r ≡ ((eqb (e .kind) kind && eqb (e .number) number) && eqb (e .line) line) ⌝ }
+{
+    (e.kind == kind) & (e.number == number) & (e.line == line)
 }
 
 // One stored number of the sets, at its place.

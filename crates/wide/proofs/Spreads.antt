@@ -1,16 +1,16 @@
--- The tests of the spread, and the smaller and the larger of two, as tests of words. Assumes nothing.
+-- The tests of the spread, and the order of two, as tests of words. Assumes nothing.
 use mathlib.Core.Path.{_≡_, sym, _∙_}
 use mathlib.Core.Bool.{true, false}
 use Prim.Native.Nat.{ℕ, _+_, _-_, _*_, _^_, _≤_, _<_}
-use lib.Dec.{eqb}
+use lib.Dec.{eqb, leb}
 use lib.IntN.{ℤ, pos, _-ℤ_}
-use lib.Signed.{leZ, _≤ℤ_}
-use borrow.Author.Tests.{eqb-true, eqb-false}
-use Rattle.meaning.specs.Number.{eqZ, smaller, larger}
+use lib.Signed.{leZ}
+use borrow.Author.Tests.{eqb-true, eqb-false, leb-true, leb-false}
+use Rattle.meaning.specs.Number.{eqZ}
 use Rattle.meaning.specs.Interval.{far}
-use Rattle.meaning.proofs.Integers.{zarith, by-test, if-yes, if-no}
+use Rattle.meaning.proofs.Integers.{zarith, by-test}
 use Rattle.wide.specs.Exact.{held}
-use Rattle.wide.proofs.Words.{Is, is-minus, is-held, is-le}
+use Rattle.wide.proofs.Words.{Is, is-minus, is-held}
 
 -- numbers with the same amount added are equal together
 pub eq-test : {a b : ℤ} {m n k : ℕ} → Is a m k → Is b n k → eqZ a b ≡ eqb m n
@@ -30,20 +30,13 @@ module _ {p q : ℤ} {m n k : ℕ} (h : Is p m k) (l : Is q n k) where
   pub near-words : far p q ≡ false → n < m + 18446744073709551615
   near-words e = let d = is-minus l h in omega zarith
 
--- the smaller and the larger of two
-module _ {a b : ℤ} where
-  pub smaller-left : a ≤ℤ b → a ≡ smaller a b
-  smaller-left h = let t : leZ a b ≡ true = omega zarith in if-yes a b t
-
-  pub smaller-right : b ≤ℤ a → b ≡ smaller a b
-  smaller-right h = by-test (leZ a b) (λ t. let e : b ≡ a = omega zarith in e ∙ if-yes a b t) (λ t. if-no a b t)
-
-  pub larger-left : b ≤ℤ a → a ≡ larger a b
-  larger-left h = by-test (leZ a b) (λ t. let e : a ≡ b = omega zarith in e ∙ if-yes b a t) (λ t. if-no b a t)
-
-  pub larger-right : a ≤ℤ b → b ≡ larger a b
-  larger-right h = let t : leZ a b ≡ true = omega zarith in if-yes b a t
+-- and in the same order
+le-test : {a b : ℤ} {m n k : ℕ} → Is a m k → Is b n k → leZ a b ≡ leb m n
+le-test {a} {b} {m} {n} {k} h l =
+    by-test (leb m n)
+    (λ t. let e = leb-true m n t in let u : leZ a b ≡ true = omega zarith in u ∙ sym t)
+    (λ t. let e = leb-false m n t in let u : leZ a b ≡ false = omega zarith in u ∙ sym t)
 
 -- what two words hold is in the order of the words
-pub held-le : (h u k v : ℕ) → h * 2 ^ 64 + u ≤ k * 2 ^ 64 + v → held h u ≤ℤ held k v
-held-le h u k v o = is-le (is-held h u) (is-held k v) o
+pub held-le : (h u k v : ℕ) → leZ (held h u) (held k v) ≡ leb (h * 2 ^ 64 + u) (k * 2 ^ 64 + v)
+held-le h u k v = le-test (is-held h u) (is-held k v)

@@ -9,7 +9,7 @@ use mir.Syntax.{w64}
 use mir.Val.{SFits}
 use mir.Facts.{toZ-ofZ}
 use Rattle.meaning.specs.Number.{window, wrap}
-use Rattle.meaning.proofs.Integers.{up, down, le-in, le-out, eq-in, eq-out, up-neg, down-neg, subℕ-parts, add-parts, sub-parts, mul-parts}
+use Rattle.meaning.proofs.Integers.{up, down, le-in, eq-in, eq-out, up-neg, down-neg, subℕ-parts, add-parts, sub-parts, mul-parts}
 use Rattle.meaning.proofs.Machine.{rd, ok}
 use Rattle.meaning.proofs.Wrapping.{wrap-parts}
 use Rattle.wide.specs.Exact.{held}
@@ -41,9 +41,6 @@ is-mul {x} {y} {a} {b} {c} {d} h k =
     )
 
 -- numbers with the same amount added are in the same order
-pub is-le : {x y : ℤ} {m n k : ℕ} → Is x m k → Is y n k → m ≤ n → x ≤ℤ y
-is-le h l o = le-out (omega arith)
-
 pub in-order : {x y : ℤ} {m n k : ℕ} → Is x m k → Is y n k → x ≤ℤ y → m ≤ n
 in-order h l o = omega (arith, le-in o)
 

@@ -3,6 +3,7 @@ use crate::exact::exact;
 use crate::product::Wide;
 ghost use mathlib.Core.Path.{_≡_};
 ghost use lib.IntN.{_*ℤ_};
+ghost use lib.Signed.{leZ};
 ghost use Rattle.meaning.specs.Number.{smaller, larger};
 ghost use Rattle.meaning.specs.Interval.{leastCorner, greatestCorner};
 ghost use Rattle.wide.specs.Exact.{held};
@@ -13,38 +14,35 @@ pub struct Ends {
     pub greatest: Wide,
 }
 
-// The smaller of two exact numbers.
-pub fn least(a: Wide, b: Wide) -> Wide
-    ensures { λ r. ⌜ held (r .hi) (r .lo) ≡ smaller (held (a .hi) (a .lo)) (held (b .hi) (b .lo)) ⌝ }
+// Whether a is at most b.
+pub fn ordered(a: Wide, b: Wide) -> bool
+    ensures { λ r. ⌜ r ≡ leZ (held (a .hi) (a .lo)) (held (b .hi) (b .lo)) ⌝ }
 {
     let p = a.hi;
     let q = b.hi;
     if p < q {
-        return a;
+        return true;
     }
     if q < p {
-        return b;
+        return false;
     }
     let m = a.lo;
     let n = b.lo;
-    if m < n { a } else { b }
+    m <= n
+}
+
+// The smaller of two exact numbers.
+pub fn least(a: Wide, b: Wide) -> Wide
+    ensures { λ r. ⌜ held (r .hi) (r .lo) ≡ smaller (held (a .hi) (a .lo)) (held (b .hi) (b .lo)) ⌝ }
+{
+    if ordered(a, b) { a } else { b }
 }
 
 // The larger of two exact numbers.
 pub fn greatest(a: Wide, b: Wide) -> Wide
     ensures { λ r. ⌜ held (r .hi) (r .lo) ≡ larger (held (a .hi) (a .lo)) (held (b .hi) (b .lo)) ⌝ }
 {
-    let p = a.hi;
-    let q = b.hi;
-    if p < q {
-        return b;
-    }
-    if q < p {
-        return a;
-    }
-    let m = a.lo;
-    let n = b.lo;
-    if m < n { b } else { a }
+    if ordered(a, b) { b } else { a }
 }
 
 // The least and the greatest corner of [s,e] and [t,f].

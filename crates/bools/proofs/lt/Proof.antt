@@ -1,88 +1,24 @@
--- The first starts and the last ends decide; without an interval there is no pair.
-use mathlib.Core.Path.{sym, _∙_}
-use Prim.Native.Nat.{_-_}
-use lib.ListN.{length, getD}
-use lib.IntN.{pos}
+-- A left start below a right end is a right end past a left start, and a left end at or past a right start the other way round.
+use mathlib.Core.Path.{_≡_, sym, ap, _∙_}
 use lib.Signed.{leZ, ltZ}
-use Rattle.meaning.specs.NumberIntervals.{ltBools}
-use Rattle.meaning.proofs.Machine.{back}
-use Rattle.bools.proofs.Some.{empty-left, empty-right, by-start-end, by-end-start, le-keeps, lt-keeps}
+use Rattle.meaning.specs.Bools.{BoolInterval}
+use Rattle.meaning.specs.NumberIntervals.{intervals, leBools, ltBools}
+use Rattle.bools.proofs.Some.{some-swap}
 use borrow.Author.Needs.{needs}
 use Rattle.bools.proofs.lt.Statement.{statement}
 use Rattle.bools.proofs.lt.Tie as tie
 
-returns : tie.Need-returns
-unfolding ltBools
-returns c =
-    let a = c .before .args in
-    λ i. record { bfalse = empty-left (λ s e t f. leZ t e) (a .left .now) (a .right .now) (c .if1 .taken) i; btrue = empty-left (λ s e t f. ltZ s f) (a .left .now) (a .right .now) (c .if1 .taken) i }
-
-returns-2 : tie.Need-returns-2
-unfolding ltBools
-returns-2 c =
-    let a = c .before .before .args in
-    λ i. record { bfalse = empty-right (λ s e t f. leZ t e) (a .left .now) (a .right .now) (c .if2 .taken) i; btrue = empty-right (λ s e t f. ltZ s f) (a .left .now) (a .right .now) (c .if2 .taken) i }
-
-shared-slice-copy-out-s : tie.Need-shared-slice-copy-out-s
-shared-slice-copy-out-s c = search needs
-
-sub-e : tie.Need-sub-e
-sub-e c = search needs
-
-mul-e : tie.Need-mul-e
-mul-e c = search needs
-
-shared-slice-copy-out-e : tie.Need-shared-slice-copy-out-e
-shared-slice-copy-out-e c = search needs
-
-shared-slice-copy-out-t : tie.Need-shared-slice-copy-out-t
-shared-slice-copy-out-t c = search needs
-
-sub-f : tie.Need-sub-f
-sub-f c = search needs
-
-mul-f : tie.Need-mul-f
-mul-f c = search needs
-
-shared-slice-copy-out-f : tie.Need-shared-slice-copy-out-f
-shared-slice-copy-out-f c = search needs
-
 le-requires : tie.Need-le-requires
 le-requires c κs = search needs
 
-less-requires : tie.Need-less-requires
-less-requires c κs = search needs
-
-returns-3 : tie.Need-returns-3
-unfolding ltBools
-returns-3 c =
-    let a = c .before .before .before .before .before .before .before .before in
-    let l = a .args .left .now in
-    let m = a .args .right .now in
-    let p = c .before .before .before .before .before .before .before .if1 .left in
-    let q = c .before .before .before .before .before .before .if2 .left in
-    let s = back (getD l 0 (pos 0)) (c .before .before .before .before .before .s .given) in
-    let e = back (getD l (length l - 1) (pos 0)) (c .before .before .before .before .e .given) in
-    let t = back (getD m 0 (pos 0)) (c .before .before .before .t .given) in
-    let f = back (getD m (length m - 1) (pos 0)) (c .before .before .f .given) in
-    let no = c .before .le .ensures ∙ (λ i. leZ (t i) (e i)) ∙ sym (by-end-start l m (a .pre .0) (a .pre .1) p q leZ le-keeps) in
-    let yes = c .less .ensures ∙ (λ i. ltZ (s i) (f i)) ∙ sym (by-start-end l m (a .pre .0) (a .pre .1) p q ltZ lt-keeps) in
+returns : tie.Need-returns
+unfolding leBools ltBools
+returns c =
+    let l = intervals (c .before .args .left .now) in
+    let r = intervals (c .before .args .right .now) in
+    let no = ap (λ (b : BoolInterval). b .btrue) (c .le .ensures) ∙ sym (some-swap (λ s e t f. leZ t e) l r) in
+    let yes = ap (λ (b : BoolInterval). b .bfalse) (c .le .ensures) ∙ sym (some-swap (λ s e t f. ltZ s f) l r) in
     λ i. record { bfalse = no i; btrue = yes i }
 
 pub lt-spec : {M : Type 1} → statement M
-lt-spec =
-    tie.close
-    (tie.spec
-    returns
-    returns-2
-    shared-slice-copy-out-s
-    sub-e
-    mul-e
-    shared-slice-copy-out-e
-    shared-slice-copy-out-t
-    sub-f
-    mul-f
-    shared-slice-copy-out-f
-    le-requires
-    less-requires
-    returns-3)
+lt-spec = tie.close (tie.spec le-requires returns)

@@ -61,17 +61,6 @@ returns-2 c =
 add-at : tie.Need-add-at Inv-loop μ-loop
 add-at c = search needs
 
-loop-less : tie.Need-loop-less Inv-loop μ-loop
-loop-less c =
-    let s = c .before .before .before .before .before .before .before .before .before .before .before .before in
-    let L = c .before .before .before .before .before .before .before .before .before .before .loop in
-    let P = putMid (L .at) (length (L .buffer) - L .at) (L .buffer) (c .before .before .before .before .before .before .before .read .last .1 .0) in
-    let e : length P ≡ length (s .args .buffer .now) = search needs in
-    let k = c .before .count .ensures .0 .0 in
-    let n = length-take (length P - L .at) (drop (L .at) P) in
-    let m = length-drop (L .at) P in
-    omega arith
-
 loop-again : tie.Need-loop-again Inv-loop μ-loop
 loop-again c =
     let s = c .before .before .before .before .before .before .before .before .before .before .before .before in
@@ -82,6 +71,9 @@ loop-again c =
     let n = length-take (length P - L .at) (drop (L .at) P) in
     let m = length-drop (L .at) P in
     (omega arith, e)
+
+loop-less : tie.Need-loop-less Inv-loop μ-loop
+loop-less c = omega (arith, loop-again c .0, loop-again c .1)
 
 same-length-3 : tie.Need-same-length-3 Inv-loop μ-loop
 same-length-3 c = search needs

@@ -1,33 +1,19 @@
--- A refused argument, too little work, or the core's answer handed out.
-use mathlib.Core.Path.{sym, _∙_}
-use Rattle.meaning.specs.SetCalls.{factor1}
-use Rattle.number_intervals.proofs.Calls.{call-refused, call-short, call-ended, enough, end-asks, need-one}
+-- The right set {0} is not refused, counts as one interval, and is not read.
+use lib.IntN.{pos}
+use lib.ListN.{replicate}
+use Rattle.meaning.specs.NumberIntervals.{intervals}
+use Rattle.cores.specs.Operation.{neg-alone}
+use Rattle.cores.proofs.Operations.{alone-is}
+use Rattle.number_intervals.proofs.Calls.{alone-asks}
 use borrow.Author.Needs.{needs}
 use Rattle.number_intervals.proofs.neg.Statement.{statement}
 use Rattle.number_intervals.proofs.neg.Tie as tie
 
-refusal-requires : tie.Need-refusal-requires
-refusal-requires c κs = search needs
+slice-aggregate-joined : tie.Need-slice-aggregate-joined
+slice-aggregate-joined c = search needs
 
-returns : tie.Need-returns
-returns c = call-refused _ _ _ _ _ _ _ (c .before .refusal .ensures .0) (c .if1 .taken)
-
-need-requires : tie.Need-need-requires
-need-requires c κs =
-    let a = c .before .refusal .ensures .1 (c .if1 .left) in
-    (search needs, a .few, search needs)
-
-returns-2 : tie.Need-returns-2
-unfolding factor1
-returns-2 c = call-short _ _ _ _ _ _ (sym (c .before .before .before .refusal .ensures .0) ∙ c .before .before .if1 .left) _ (c .before .need .ensures ∙ need-one 4 _) (c .if2 .taken)
-
-core-requires : tie.Need-core-requires
-unfolding factor1
-core-requires c κs = (c .before .before .before .before .refusal .ensures .1 (c .before .before .before .if1 .left), enough (c .before .before .need .ensures ∙ need-one 4 _) (c .before .if2 .left))
-
-finish-requires : tie.Need-finish-requires
-unfolding factor1
-finish-requires c κs = end-asks (c .before .before .before .before .before .before .need .ensures ∙ need-one 4 _) (c .before .before .before .core .ensures .room) (c .before .before .before .before .before .if2 .left) (c .before .before .before .core .kept .0)
+joined-requires : tie.Need-joined-requires
+joined-requires c κs = search needs
 
 same-length : tie.Need-same-length
 same-length c = search needs
@@ -35,11 +21,13 @@ same-length c = search needs
 same-length-2 : tie.Need-same-length-2
 same-length-2 c = search needs
 
-returns-3 : tie.Need-returns-3
-unfolding factor1
-returns-3 c =
-    let q = c .before .before .finish .ensures in
-    call-ended _ _ _ _ _ _ (sym (c .before .before .before .before .before .before .before .before .before .before .before .refusal .ensures .0) ∙ c .before .before .before .before .before .before .before .before .before .before .if1 .left) _ (c .before .before .before .before .before .before .before .before .before .need .ensures ∙ need-one 4 _) (c .before .before .before .before .before .before .before .before .if2 .left) (c .before .before .before .before .before .before .core .ensures) (q .0) (q .1) (q .2)
+returns : tie.Need-returns
+returns c =
+    let a = c .before .before .before .before .before .before .args in
+    let is = alone-is neg-alone (a .flag) (intervals (a .left .now)) (intervals (replicate 2 (pos 0))) in
+    let asks = alone-asks (is .2) (a .left .now) in
+    let h = c .before .before .joined .ensures in
+    (cc, cc, cc)
 
 pub neg-spec : {M : Type 1} → statement M
-neg-spec = tie.close (tie.spec refusal-requires returns need-requires returns-2 core-requires finish-requires same-length same-length-2 returns-3)
+neg-spec = tie.close (tie.spec slice-aggregate-joined joined-requires same-length same-length-2 returns)

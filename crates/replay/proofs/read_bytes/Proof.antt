@@ -1,12 +1,14 @@
 -- The part that is read into is lent after its length was tested.
 use native.Mathlib.Omega.{arith}
+use mathlib.Core.Bool.{false}
 use lib.ListN.{length-take}
 use borrow.Author.Needs.{needs}
+use Rattle.meaning.proofs.Integers.{true-T}
 use Rattle.replay.proofs.read_bytes.Statement.{statement}
 use Rattle.replay.proofs.read_bytes.Tie as tie
 
 returns : tie.Need-returns
-returns c = search needs
+returns c = λ e. absurd (true-T {t = false} e)
 
 slice-relend-prefix-read-full : tie.Need-slice-relend-prefix-read-full
 slice-relend-prefix-read-full c = search needs

@@ -1,14 +1,12 @@
 -- `run::run` meets its contract: 3 first, then the refusals of the text, and a sheet is worked.
-use mathlib.Core.Path.{sym, ap, _∙_}
-use Rattle.meaning.specs.Run.{verdict, leftBy, runLent}
-use Rattle.run.proofs.Steps.{call-short, call-text, call-sheet, call-refused}
+use Rattle.sheet.proofs.Judging.{fine-sheet}
+use Rattle.run.proofs.Steps.{ran-short, ran-refused, ran-worked}
 use borrow.Author.Needs.{needs}
 use Rattle.run.proofs.run.Statement.{statement}
 use Rattle.run.proofs.run.Tie as tie
 
 returns : tie.Need-returns
-unfolding runLent
-returns c = let e = call-short (c .before .before .args .text .now) (c .before .before .args .lent .now) (c .if1 .taken) in (sym (ap verdict e), sym (ap (leftBy (c .before .before .args .lent .now)) e))
+returns c = let q = ran-short (c .before .before .args .text .now) (c .before .before .args .lent .now) (c .if1 .taken) in (q .verdict-is, (q .answer-is, q .lent-left))
 
 judge-text-requires : tie.Need-judge-text-requires
 judge-text-requires c κs = search needs
@@ -17,7 +15,7 @@ enum-known-n : tie.Need-enum-known-n
 enum-known-n c = search needs
 
 work-requires : tie.Need-work-requires
-work-requires c κs = (c .before .before .before .before .before .if1 .left, call-sheet (c .before .before .before .before .before .before .before .args .text .now) (c .before .before .before .before .before .before .before .args .lent .now) (c .before .before .before .before .before .if1 .left) (c .before .before .before .before .judge-text .ensures .1) (c .before .before .n .given .1))
+work-requires c κs = (c .before .before .before .before .before .if1 .left, fine-sheet (c .before .before .before .before .before .before .before .args .text .now) (c .before .before .before .before .judge-text .ensures .1) (c .before .before .n .given .1))
 
 enum-known-k : tie.Need-enum-known-k
 enum-known-k c = search needs
@@ -26,12 +24,10 @@ same-length : tie.Need-same-length
 same-length c = search needs
 
 returns-2 : tie.Need-returns-2
-unfolding runLent
-returns-2 c = let e = call-text (c .before .before .before .before .before .before .before .before .before .args .text .now) (c .before .before .before .before .before .before .before .before .before .args .lent .now) (c .before .before .before .before .before .before .before .if1 .left) in (c .before .work .ensures .0 ∙ sym (ap verdict e), c .before .work .ensures .1 ∙ sym (ap (leftBy (c .before .before .before .before .before .before .before .before .before .args .lent .now)) e))
+returns-2 c = let e = c .before .work .ensures in let q = ran-worked (c .before .before .before .before .before .before .before .before .before .args .text .now) (c .before .before .before .before .before .before .before .before .before .args .lent .now) (c .before .before .before .before .before .before .before .if1 .left) (e .0) (e .1) in (q .verdict-is, (q .answer-is, q .lent-left))
 
 returns-3 : tie.Need-returns-3
-unfolding runLent
-returns-3 c = let e = call-refused (c .before .before .before .before .before .before .args .text .now) (c .before .before .before .before .before .before .args .lent .now) (c .before .before .before .before .if1 .left) (c .before .before .before .judge-text .ensures .1) (c .before .k .given .1) in (sym (ap verdict e), sym (ap (leftBy (c .before .before .before .before .before .before .args .lent .now)) e))
+returns-3 c = let q = ran-refused (c .before .before .before .before .before .before .args .text .now) (c .before .before .before .before .before .before .args .lent .now) (c .before .before .before .before .if1 .left) (c .before .before .before .judge-text .ensures .1) (c .before .k .given .1) in (q .verdict-is, (q .answer-is, q .lent-left))
 
 pub run-spec : {M : Type 1} → statement M
 run-spec =

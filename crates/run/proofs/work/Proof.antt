@@ -6,8 +6,9 @@ use native.Mathlib.Omega.{arith}
 use lib.ListN.{length, take}
 use Rattle.meaning.specs.Lists.{over}
 use Rattle.meaning.specs.Sheet.{registers}
-use Rattle.meaning.specs.Run.{verdict, leftBy}
+use Rattle.meaning.specs.Run.{leftBy}
 use Rattle.sheet.proofs.Feeds.{end-lt}
+use Rattle.run.specs.Answer.{answerFor}
 use Rattle.run.proofs.Steps.{Running, running-start, running-next, running-stop, running-done, stop-size, written-is, copied-is}
 use Rattle.run.proofs.work.Statement.{statement}
 use Rattle.run.proofs.work.Tie as tie
@@ -22,7 +23,7 @@ slice-aggregate-copy-front : tie.Need-slice-aggregate-copy-front Inv-loop μ-loo
 slice-aggregate-copy-front c = refl
 
 copy-front-requires : tie.Need-copy-front-requires Inv-loop μ-loop
-copy-front-requires c κs = (c .before .before .before .pre .0, omega arith)
+copy-front-requires c κs = let h = c .before .before .before .pre .0 in (omega (arith, h), omega (arith, h))
 
 loop-holds : tie.Need-loop-holds Inv-loop μ-loop
 loop-holds c = (running-start (c .before .before .before .before .before .args .text .now) (c .before .before .before .before .before .args .lent .now) (c .before .before .before .before .before .args .count) (c .before .before .before .before .before .pre .1), refl, c .before .copy-front .ensures ∙ copied-is (c .before .before .before .before .before .args .lent .now) _ refl (c .before .before .before .before .before .pre .0))
@@ -58,7 +59,7 @@ same-length : tie.Need-same-length Inv-loop μ-loop
 same-length c = c .before .copy-front2 .kept .0 ∙ ap length (c .before .before .before .before .before .before .before .before .before .before .before .before .before .loop .inv .1)
 
 returns : tie.Need-returns Inv-loop μ-loop
-returns c = let e = running-stop (c .before .before .before .before .before .before .before .before .before .before .before .before .before .before .before .before .before .before .before .args .text .now) (c .before .before .before .before .before .before .before .before .before .before .before .before .before .before .before .before .before .before .before .args .lent .now) (c .before .before .before .before .before .before .before .before .before .before .before .before .before .loop .state) (c .before .before .before .before .before .before .before .before .before .before .before .before .before .before .before .before .before .before .before .args .count) (c .before .before .before .before .before .before .before .before .before .before .before .before .before .loop .n) (c .before .before .before .before .before .before .before .before .before .before .before .before .before .loop .at) (c .before .before .before .before .before .before .before .before .before .before .before .before .before .loop .inv .0) (c .before .before .before .before .before .before .before .before .before .before .before .before .loop-test .taken) (c .before .before .before .before .before .before .before .before .before .before .before .line-end .ensures) (c .before .before .before .before .before .before .before .before .before .before .before .before .before .loop .inv .2) (c .before .before .before .before .before .before .before .run-line .ensures) (c .before .before .before .before .before .step .given .1) in (sym (ap verdict e), c .before .copy-front2 .ensures ∙ written-is _ _ (stop-size (c .before .before .before .before .before .before .before .before .before .before .before .before .before .before .before .before .before .before .before .args .text .now) (c .before .before .before .before .before .before .before .before .before .before .before .before .before .before .before .before .before .before .before .args .lent .now) (c .before .before .before .before .before .before .before .before .before .before .before .before .before .loop .state) (c .before .before .before .before .before .before .before .before .before .before .before .before .before .before .before .before .before .before .before .args .count) (c .before .before .before .before .before .before .before .before .before .before .before .before .before .loop .n) (c .before .before .before .before .before .before .before .before .before .before .before .before .before .loop .at) (c .before .before .before .before .before .before .before .before .before .before .before .before .before .loop .inv .0) (c .before .before .before .before .before .before .before .before .before .before .before .before .loop-test .taken) (c .before .before .before .before .before .before .before .before .before .before .before .line-end .ensures) (c .before .before .before .before .before .before .before .before .before .before .before .before .before .loop .inv .2) (c .before .before .before .before .before .before .before .run-line .ensures) (c .before .before .before .before .before .step .given .1)) ∙ ap (over _) (c .before .before .before .before .before .before .before .before .before .before .before .before .before .loop .inv .1) ∙ sym (ap (leftBy (c .before .before .before .before .before .before .before .before .before .before .before .before .before .before .before .before .before .before .before .args .lent .now)) e))
+returns c = let e = running-stop (c .before .before .before .before .before .before .before .before .before .before .before .before .before .before .before .before .before .before .before .args .text .now) (c .before .before .before .before .before .before .before .before .before .before .before .before .before .before .before .before .before .before .before .args .lent .now) (c .before .before .before .before .before .before .before .before .before .before .before .before .before .loop .state) (c .before .before .before .before .before .before .before .before .before .before .before .before .before .before .before .before .before .before .before .args .count) (c .before .before .before .before .before .before .before .before .before .before .before .before .before .loop .n) (c .before .before .before .before .before .before .before .before .before .before .before .before .before .loop .at) (c .before .before .before .before .before .before .before .before .before .before .before .before .before .loop .inv .0) (c .before .before .before .before .before .before .before .before .before .before .before .before .loop-test .taken) (c .before .before .before .before .before .before .before .before .before .before .before .line-end .ensures) (c .before .before .before .before .before .before .before .before .before .before .before .before .before .loop .inv .2) (c .before .before .before .before .before .before .before .run-line .ensures) (c .before .before .before .before .before .step .given .1) in (sym (ap answerFor e), c .before .copy-front2 .ensures ∙ written-is _ _ (stop-size (c .before .before .before .before .before .before .before .before .before .before .before .before .before .before .before .before .before .before .before .args .text .now) (c .before .before .before .before .before .before .before .before .before .before .before .before .before .before .before .before .before .before .before .args .lent .now) (c .before .before .before .before .before .before .before .before .before .before .before .before .before .loop .state) (c .before .before .before .before .before .before .before .before .before .before .before .before .before .before .before .before .before .before .before .args .count) (c .before .before .before .before .before .before .before .before .before .before .before .before .before .loop .n) (c .before .before .before .before .before .before .before .before .before .before .before .before .before .loop .at) (c .before .before .before .before .before .before .before .before .before .before .before .before .before .loop .inv .0) (c .before .before .before .before .before .before .before .before .before .before .before .before .loop-test .taken) (c .before .before .before .before .before .before .before .before .before .before .before .line-end .ensures) (c .before .before .before .before .before .before .before .before .before .before .before .before .before .loop .inv .2) (c .before .before .before .before .before .before .before .run-line .ensures) (c .before .before .before .before .before .step .given .1)) ∙ ap (over _) (c .before .before .before .before .before .before .before .before .before .before .before .before .before .loop .inv .1) ∙ sym (ap (leftBy (c .before .before .before .before .before .before .before .before .before .before .before .before .before .before .before .before .before .before .before .args .lent .now)) e))
 
 enum-told : tie.Need-enum-told Inv-loop μ-loop
 enum-told c = search needs
@@ -82,7 +83,7 @@ same-length-2 : tie.Need-same-length-2 Inv-loop μ-loop
 same-length-2 c = search needs
 
 returns-2 : tie.Need-returns-2 Inv-loop μ-loop
-returns-2 c = let e = running-done (c .before .before .before .before .before .before .before .before .before .before .before .args .text .now) (c .before .before .before .before .before .before .before .before .before .before .before .args .lent .now) (c .before .before .before .before .before .loop .state) (c .before .before .before .before .before .before .before .before .before .before .before .args .count) (c .before .before .before .before .before .loop .n) (c .before .before .before .before .before .loop .at) (c .before .before .before .before .before .loop .inv .0) (omega arith) in (sym (ap verdict e), c .before .copy-front3 .ensures ∙ written-is _ _ (c .before .before .before .before .before .loop .inv .0 .size) ∙ ap (over _) (c .before .before .before .before .before .loop .inv .1) ∙ sym (ap (leftBy (c .before .before .before .before .before .before .before .before .before .before .before .args .lent .now)) e))
+returns-2 c = let e = running-done (c .before .before .before .before .before .before .before .before .before .before .before .args .text .now) (c .before .before .before .before .before .before .before .before .before .before .before .args .lent .now) (c .before .before .before .before .before .loop .state) (c .before .before .before .before .before .before .before .before .before .before .before .args .count) (c .before .before .before .before .before .loop .n) (c .before .before .before .before .before .loop .at) (c .before .before .before .before .before .loop .inv .0) (omega arith) in (sym (ap answerFor e), c .before .copy-front3 .ensures ∙ written-is _ _ (c .before .before .before .before .before .loop .inv .0 .size) ∙ ap (over _) (c .before .before .before .before .before .loop .inv .1) ∙ sym (ap (leftBy (c .before .before .before .before .before .before .before .before .before .before .before .args .lent .now)) e))
 
 pub work-spec : {M : Type 1} → statement M
 work-spec =

@@ -6,12 +6,11 @@ use native.Mathlib.Omega.{arith}
 use lib.ListN.{drop}
 use lib.Signed.{leZ}
 use Rattle.meaning.specs.NumberIntervals.{apart, startsAfter}
-use Rattle.meaning.proofs.Integers.{and-left, and-yes}
+use Rattle.meaning.proofs.Integers.{and-left}
 use Rattle.meaning.proofs.Machine.{back, fit, fits-range}
 use Rattle.sorting.proofs.Steps.{end-at}
+use Rattle.sets.proofs.Reading.{after-more}
 use borrow.Author.Needs.{needs}
-use borrow.Author.Tests.{not-true, not-false}
-use Rattle.sets.proofs.Reading.{after-end, after-more}
 use Rattle.sets.proofs.fine_at.Statement.{statement}
 use Rattle.sets.proofs.fine_at.Tie as tie
 
@@ -30,21 +29,33 @@ mul-b c = search needs
 shared-slice-copy-out-b : tie.Need-shared-slice-copy-out-b
 shared-slice-copy-out-b c = search needs
 
+add-c : tie.Need-add-c
+add-c c = search needs
+
+mul-c : tie.Need-mul-c
+mul-c c = search needs
+
+shared-slice-copy-out-c : tie.Need-shared-slice-copy-out-c
+shared-slice-copy-out-c c = search needs
+
 le-requires : tie.Need-le-requires
 le-requires c κs = search needs
 
+apart-requires : tie.Need-apart-requires
+apart-requires c κs = search needs
+
 returns : tie.Need-returns
 returns c =
-    let a = c .before .before .before .before in
+    let a = c .before .before .before .before .before .before in
     let s = a .args .s .now in
     let i = a .args .i in
-    let p = c .before .before .before .a .given in
-    let q = c .before .before .b .given in
-    let t : leZ (end-at s i) (end-at s (i + 1)) ≡ false = rw (back (end-at s i) p, back (end-at s (i + 1)) q) at (sym (c .before .le .ensures) ∙ not-true _ (c .if1 .taken)) in
-    (sym (and-left _ t), (fits-range (fit (end-at s i) p), fits-range (fit (end-at s (i + 1)) q)))
-
-sub-if2 : tie.Need-sub-if2
-sub-if2 c = search needs
+    let p = c .before .before .before .before .before .a .given in
+    let q = c .before .before .before .before .b .given in
+    let r = c .before .before .before .c .given in
+    let t : leZ (end-at s i) (end-at s (i + 1)) ≡ true = rw (back (end-at s i) p, back (end-at s (i + 1)) q) at (sym (c .before .before .le .ensures) ∙ c .before .if1 .taken) in
+    let u : startsAfter (end-at s (i + 1)) (drop (i + 2) s) ≡ apart (end-at s (i + 1)) (end-at s (i + 2)) = after-more s (i + 2) (end-at s (i + 1)) (omega (arith, a .pre)) in
+    let v : c .apart .result ≡ apart (end-at s (i + 1)) (end-at s (i + 2)) = c .apart .ensures ∙ (λ j. apart (back (end-at s (i + 1)) q j) (back (end-at s (i + 2)) r j)) in
+    (simp (t, u, v), (fits-range (fit (end-at s i) p), fits-range (fit (end-at s (i + 1)) q)))
 
 returns-2 : tie.Need-returns-2
 returns-2 c =
@@ -53,34 +64,8 @@ returns-2 c =
     let i = a .args .i in
     let p = c .before .before .before .before .a .given in
     let q = c .before .before .before .b .given in
-    let t : leZ (end-at s i) (end-at s (i + 1)) ≡ true = rw (back (end-at s i) p, back (end-at s (i + 1)) q) at (sym (c .before .before .le .ensures) ∙ not-false _ (c .before .if1 .left)) in
-    let u = after-end s (i + 2) (end-at s (i + 1)) (omega (arith, c .if2 .taken)) in
-    (sym (and-yes t u), (fits-range (fit (end-at s i) p), fits-range (fit (end-at s (i + 1)) q)))
-
-add-c : tie.Need-add-c
-add-c c = search needs
-
-mul-c : tie.Need-mul-c
-mul-c c = search needs
-
-shared-slice-copy-out-c : tie.Need-shared-slice-copy-out-c
-shared-slice-copy-out-c c = omega (arith, c .if2 .left, c .before .before .before .before .before .pre)
-
-apart-requires : tie.Need-apart-requires
-apart-requires c κs = search needs
-
-returns-3 : tie.Need-returns-3
-returns-3 c =
-    let a = c .before .before .before .before .before .before .before in
-    let s = a .args .s .now in
-    let i = a .args .i in
-    let p = c .before .before .before .before .before .before .a .given in
-    let q = c .before .before .before .before .before .b .given in
-    let r = c .before .c .given in
-    let t : leZ (end-at s i) (end-at s (i + 1)) ≡ true = rw (back (end-at s i) p, back (end-at s (i + 1)) q) at (sym (c .before .before .before .before .le .ensures) ∙ not-false _ (c .before .before .before .if1 .left)) in
-    let u : startsAfter (end-at s (i + 1)) (drop (i + 2) s) ≡ apart (end-at s (i + 1)) (end-at s (i + 2)) = after-more s (i + 2) (end-at s (i + 1)) (omega (arith, c .before .before .if2 .left, a .pre)) in
-    let v : c .apart .result ≡ apart (end-at s (i + 1)) (end-at s (i + 2)) = rw (back (end-at s (i + 1)) q, back (end-at s (i + 2)) r) at (c .apart .ensures) in
-    (simp (t, u, v), (fits-range (fit (end-at s i) p), fits-range (fit (end-at s (i + 1)) q)))
+    let t : leZ (end-at s i) (end-at s (i + 1)) ≡ false = rw (back (end-at s i) p, back (end-at s (i + 1)) q) at (sym (c .before .le .ensures) ∙ c .if1 .left) in
+    (sym (and-left _ t), (fits-range (fit (end-at s i) p), fits-range (fit (end-at s (i + 1)) q)))
 
 pub fine-at-spec : {M : Type 1} → statement M
 fine-at-spec =
@@ -91,12 +76,10 @@ fine-at-spec =
     add-b
     mul-b
     shared-slice-copy-out-b
-    le-requires
-    returns
-    sub-if2
-    returns-2
     add-c
     mul-c
     shared-slice-copy-out-c
+    le-requires
     apart-requires
-    returns-3)
+    returns
+    returns-2)

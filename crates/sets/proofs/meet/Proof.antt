@@ -1,13 +1,14 @@
 -- What is written so far, and the walk over what is left, is the whole walk.
 use mathlib.Core.Path.{_≡_, refl, sym, _∙_}
-use Prim.Native.Nat.{_+_, _-_, _<_}
+use Prim.Native.Nat.{_+_, _-_}
 use native.Mathlib.Omega.{arith}
 use lib.ListN.{length}
+use Rattle.meaning.specs.Number.{larger}
 use Rattle.meaning.proofs.Machine.{back}
 use Rattle.sorting.proofs.Steps.{end-at}
 use Rattle.sets.proofs.Bridge.{set-valid}
 use borrow.Author.Needs.{needs}
-use Rattle.sets.proofs.Cross.{Crossing, crossing-start, cross-pair-l, cross-pair-r, crossing-left-out, crossing-left, crossing-right-out, crossing-right, crossing-end-l, crossing-end-r}
+use Rattle.sets.proofs.Cross.{Crossing, Turn, crossing-start, cross-pair-l, cross-pair-r, crossing-left-out, crossing-left, crossing-right-out, crossing-right, crossing-end-l, crossing-end-r}
 use Rattle.sets.proofs.meet.Statement.{statement}
 use Rattle.sets.proofs.meet.Tie as tie
 
@@ -16,6 +17,25 @@ Inv-loop work₀ left right n m i₀ j₀ at₀ work i j at = (n ≡ length left
 
 abbrev μ-loop : tie.MeasureT-loop
 μ-loop work₀ left right n m i₀ j₀ at₀ work i j at = (n - i) + (m - j)
+
+-- what was read in a turn, where the two ends have been compared
+turn : (x : tie.After-le Inv-loop μ-loop) → Turn (x .before .before .before .before .before .before .before .before .before .args .left .now) (x .before .before .before .before .before .before .before .before .before .args .right .now) (x .before .before .before .before .before .before .before .before .loop .i) (x .before .before .before .before .before .before .before .before .loop .j) (x .before .greater .result)
+turn x =
+    let a = x .before .before .before .before .before .before .before .before in
+    let l = a .before .args .left .now in
+    let r = a .before .args .right .now in
+    let i = a .loop .i in
+    let j = a .loop .j in
+    let s = back (end-at l i) (x .before .before .before .before .before .s .given) in
+    let c = back (end-at r j) (x .before .before .before .c .given) in
+    record {
+      some-l = omega (arith, x .before .before .before .before .before .before .before .loop-test .taken, a .loop .inv .0);
+      some-r = omega (arith, x .before .before .before .before .before .before .if1 .left, a .loop .inv .1);
+      e-back = back (end-at l (i + 1)) (x .before .before .before .before .e .given);
+      d-back = back (end-at r (j + 1)) (x .before .before .d .given);
+      lo-back = back (x .before .greater .result) (x .before .greater .ok);
+      lo-is = x .before .greater .ensures ∙ (λ k. larger (s k) (c k));
+    }
 
 loop-holds : tie.Need-loop-holds Inv-loop μ-loop
 loop-holds c = (refl, refl, crossing-start _ _ _ (c .pre .0) (set-valid _ (c .pre .1)) (set-valid _ (c .pre .2)))
@@ -79,23 +99,13 @@ loop-less c = search needs
 
 loop-again : tie.Need-loop-again Inv-loop μ-loop
 loop-again c =
-    let a = c .before .before .before .before .before .before .before .before .before .before .before .before .before .before in
-    let l = c .before .before .before .before .before .before .before .before .before .before .before .before .before .before .before .args .left .now in
-    let r = c .before .before .before .before .before .before .before .before .before .before .before .before .before .before .before .args .right .now in
-    let i = a .loop .i in
-    let j = a .loop .j in
-    let p : i < length l = omega (arith, c .before .before .before .before .before .before .before .before .before .before .before .before .before .loop-test .taken, a .loop .inv .0) in
-    let q : j < length r = omega (arith, c .before .before .before .before .before .before .before .before .before .before .before .before .if1 .left, a .loop .inv .1) in
-    let bs = back (end-at l i) (c .before .before .before .before .before .before .before .before .before .before .before .s .given) in
-    let be = back (end-at l (i + 1)) (c .before .before .before .before .before .before .before .before .before .before .e .given) in
-    let bc = back (end-at r j) (c .before .before .before .before .before .before .before .before .before .c .given) in
-    let bd = back (end-at r (j + 1)) (c .before .before .before .before .before .before .before .before .d .given) in
-    let bg = back (c .before .before .before .before .before .before .before .greater .result) (c .before .before .before .before .before .before .before .greater .ok) in
-    let g = rw (bs, bc) at (c .before .before .before .before .before .before .before .greater .ensures) in
-    let x = rw (be, bd) at (sym (c .before .before .before .before .before .before .le .ensures) ∙ c .before .before .before .before .before .if2 .taken) in
-    let y = rw (bg, be, g) at (sym (c .before .before .before .before .le2 .ensures) ∙ c .before .before .before .if3 .taken) in
-    let z = rw (bg, be, g) at (c .before .put-pair .ensures) in
-    (a .loop .inv .0, a .loop .inv .1, rw z (crossing-left-out (a .loop .inv .2) p q x y))
+    let x = c .before .before .before .before .before .before in
+    let a = x .before .before .before .before .before .before .before .before in
+    let t = turn x in
+    let f = rw (t .e-back, t .d-back) at (sym (x .le .ensures) ∙ c .before .before .before .before .before .if2 .taken) in
+    let g = rw (t .lo-back, t .e-back, t .lo-is) at (sym (c .before .before .before .before .le2 .ensures) ∙ c .before .before .before .if3 .taken) in
+    let z = rw (t .lo-back, t .e-back, t .lo-is) at (c .before .put-pair .ensures) in
+    (a .loop .inv .0, a .loop .inv .1, rw z (crossing-left-out (a .loop .inv .2) (t .some-l) (t .some-r) f g))
 
 add-i-2 : tie.Need-add-i-2 Inv-loop μ-loop
 add-i-2 c = search needs
@@ -105,22 +115,12 @@ loop-less-2 c = search needs
 
 loop-again-2 : tie.Need-loop-again-2 Inv-loop μ-loop
 loop-again-2 c =
-    let a = c .before .before .before .before .before .before .before .before .before .before .before in
-    let l = c .before .before .before .before .before .before .before .before .before .before .before .before .args .left .now in
-    let r = c .before .before .before .before .before .before .before .before .before .before .before .before .args .right .now in
-    let i = a .loop .i in
-    let j = a .loop .j in
-    let p : i < length l = omega (arith, c .before .before .before .before .before .before .before .before .before .before .loop-test .taken, a .loop .inv .0) in
-    let q : j < length r = omega (arith, c .before .before .before .before .before .before .before .before .before .if1 .left, a .loop .inv .1) in
-    let bs = back (end-at l i) (c .before .before .before .before .before .before .before .before .s .given) in
-    let be = back (end-at l (i + 1)) (c .before .before .before .before .before .before .before .e .given) in
-    let bc = back (end-at r j) (c .before .before .before .before .before .before .c .given) in
-    let bd = back (end-at r (j + 1)) (c .before .before .before .before .before .d .given) in
-    let bg = back (c .before .before .before .before .greater .result) (c .before .before .before .before .greater .ok) in
-    let g = rw (bs, bc) at (c .before .before .before .before .greater .ensures) in
-    let x = rw (be, bd) at (sym (c .before .before .before .le .ensures) ∙ c .before .before .if2 .taken) in
-    let y = rw (bg, be, g) at (sym (c .before .le2 .ensures) ∙ c .if3 .left) in
-    (a .loop .inv .0, a .loop .inv .1, crossing-left (a .loop .inv .2) p q x y)
+    let x = c .before .before .before in
+    let a = x .before .before .before .before .before .before .before .before in
+    let t = turn x in
+    let f = rw (t .e-back, t .d-back) at (sym (x .le .ensures) ∙ c .before .before .if2 .taken) in
+    let g = rw (t .lo-back, t .e-back, t .lo-is) at (sym (c .before .le2 .ensures) ∙ c .if3 .left) in
+    (a .loop .inv .0, a .loop .inv .1, crossing-left (a .loop .inv .2) (t .some-l) (t .some-r) f g)
 
 le-requires-3 : tie.Need-le-requires-3 Inv-loop μ-loop
 le-requires-3 c κs = search needs
@@ -139,23 +139,13 @@ loop-less-3 c = search needs
 
 loop-again-3 : tie.Need-loop-again-3 Inv-loop μ-loop
 loop-again-3 c =
-    let a = c .before .before .before .before .before .before .before .before .before .before .before .before .before .before in
-    let l = c .before .before .before .before .before .before .before .before .before .before .before .before .before .before .before .args .left .now in
-    let r = c .before .before .before .before .before .before .before .before .before .before .before .before .before .before .before .args .right .now in
-    let i = a .loop .i in
-    let j = a .loop .j in
-    let p : i < length l = omega (arith, c .before .before .before .before .before .before .before .before .before .before .before .before .before .loop-test .taken, a .loop .inv .0) in
-    let q : j < length r = omega (arith, c .before .before .before .before .before .before .before .before .before .before .before .before .if1 .left, a .loop .inv .1) in
-    let bs = back (end-at l i) (c .before .before .before .before .before .before .before .before .before .before .before .s .given) in
-    let be = back (end-at l (i + 1)) (c .before .before .before .before .before .before .before .before .before .before .e .given) in
-    let bc = back (end-at r j) (c .before .before .before .before .before .before .before .before .before .c .given) in
-    let bd = back (end-at r (j + 1)) (c .before .before .before .before .before .before .before .before .d .given) in
-    let bg = back (c .before .before .before .before .before .before .before .greater .result) (c .before .before .before .before .before .before .before .greater .ok) in
-    let g = rw (bs, bc) at (c .before .before .before .before .before .before .before .greater .ensures) in
-    let x = rw (be, bd) at (sym (c .before .before .before .before .before .before .le .ensures) ∙ c .before .before .before .before .before .if2 .left) in
-    let y = rw (bg, bd, g) at (sym (c .before .before .before .before .le3 .ensures) ∙ c .before .before .before .if4 .taken) in
-    let z = rw (bg, bd, g) at (c .before .put-pair2 .ensures) in
-    (a .loop .inv .0, a .loop .inv .1, rw z (crossing-right-out (a .loop .inv .2) p q x y))
+    let x = c .before .before .before .before .before .before in
+    let a = x .before .before .before .before .before .before .before .before in
+    let t = turn x in
+    let f = rw (t .e-back, t .d-back) at (sym (x .le .ensures) ∙ c .before .before .before .before .before .if2 .left) in
+    let g = rw (t .lo-back, t .d-back, t .lo-is) at (sym (c .before .before .before .before .le3 .ensures) ∙ c .before .before .before .if4 .taken) in
+    let z = rw (t .lo-back, t .d-back, t .lo-is) at (c .before .put-pair2 .ensures) in
+    (a .loop .inv .0, a .loop .inv .1, rw z (crossing-right-out (a .loop .inv .2) (t .some-l) (t .some-r) f g))
 
 add-j-2 : tie.Need-add-j-2 Inv-loop μ-loop
 add-j-2 c = search needs
@@ -165,22 +155,12 @@ loop-less-4 c = search needs
 
 loop-again-4 : tie.Need-loop-again-4 Inv-loop μ-loop
 loop-again-4 c =
-    let a = c .before .before .before .before .before .before .before .before .before .before .before in
-    let l = c .before .before .before .before .before .before .before .before .before .before .before .before .args .left .now in
-    let r = c .before .before .before .before .before .before .before .before .before .before .before .before .args .right .now in
-    let i = a .loop .i in
-    let j = a .loop .j in
-    let p : i < length l = omega (arith, c .before .before .before .before .before .before .before .before .before .before .loop-test .taken, a .loop .inv .0) in
-    let q : j < length r = omega (arith, c .before .before .before .before .before .before .before .before .before .if1 .left, a .loop .inv .1) in
-    let bs = back (end-at l i) (c .before .before .before .before .before .before .before .before .s .given) in
-    let be = back (end-at l (i + 1)) (c .before .before .before .before .before .before .before .e .given) in
-    let bc = back (end-at r j) (c .before .before .before .before .before .before .c .given) in
-    let bd = back (end-at r (j + 1)) (c .before .before .before .before .before .d .given) in
-    let bg = back (c .before .before .before .before .greater .result) (c .before .before .before .before .greater .ok) in
-    let g = rw (bs, bc) at (c .before .before .before .before .greater .ensures) in
-    let x = rw (be, bd) at (sym (c .before .before .before .le .ensures) ∙ c .before .before .if2 .left) in
-    let y = rw (bg, bd, g) at (sym (c .before .le3 .ensures) ∙ c .if4 .left) in
-    (a .loop .inv .0, a .loop .inv .1, crossing-right (a .loop .inv .2) p q x y)
+    let x = c .before .before .before in
+    let a = x .before .before .before .before .before .before .before .before in
+    let t = turn x in
+    let f = rw (t .e-back, t .d-back) at (sym (x .le .ensures) ∙ c .before .before .if2 .left) in
+    let g = rw (t .lo-back, t .d-back, t .lo-is) at (sym (c .before .le3 .ensures) ∙ c .if4 .left) in
+    (a .loop .inv .0, a .loop .inv .1, crossing-right (a .loop .inv .2) (t .some-l) (t .some-r) f g)
 
 same-length-2 : tie.Need-same-length-2 Inv-loop μ-loop
 same-length-2 c = search needs

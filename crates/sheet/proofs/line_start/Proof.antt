@@ -1,27 +1,28 @@
--- `sheet::line_start` meets its contract. The invariant: what is behind the first i lines starts at `at`.
+-- `sheet::line_start` meets its contract. The invariant: the text cut after i lines ends at `at`.
 use mathlib.Core.Path.{_≡_}
 use Prim.Native.Nat.{_-_, _≤_}
 use borrow.Author.Needs.{needs}
 use native.Mathlib.Omega.{arith}
-use Rattle.sheet.specs.Feed.{Behind}
-use Rattle.sheet.proofs.Feeds.{behind-start, behind-next, behind-end}
+use lib.ListN.{length}
+use Rattle.meaning.specs.Text.{cut}
+use Rattle.sheet.proofs.Feeds.{start-first, start-next, start-end}
 use Rattle.sheet.proofs.line_start.Statement.{statement}
 use Rattle.sheet.proofs.line_start.Tie as tie
 
 abbrev Inv-loop : tie.InvT-loop
-Inv-loop text k at₀ i₀ at i = Behind text i at × (i ≤ k)
+Inv-loop text k at₀ i₀ at i = (at ≡ length (cut text i)) × (i ≤ k)
 
 abbrev μ-loop : tie.MeasureT-loop
 μ-loop text k at₀ i₀ at i = k - i
 
 loop-holds : tie.Need-loop-holds Inv-loop μ-loop
-loop-holds c = (behind-start (c .before .args .text .now), omega arith)
+loop-holds c = (start-first (c .before .args .text .now), omega arith)
 
 line-end-requires : tie.Need-line-end-requires Inv-loop μ-loop
 line-end-requires c κs = search needs
 
 returns : tie.Need-returns Inv-loop μ-loop
-returns c = behind-end (c .before .before .before .before .before .args .text .now) (c .before .before .before .loop .i) (c .before .before .before .loop .at) (c .before .before .before .loop .inv .0) (c .before .line-end .ensures) (c .before .before .before .before .before .args .k) (c .if1 .taken) (omega arith)
+returns c = start-end (c .before .before .before .before .before .args .text .now) (c .before .before .before .loop .i) (c .before .before .before .loop .at) (c .before .before .before .loop .inv .0) (c .before .line-end .ensures) (c .before .before .before .before .before .args .k) (c .if1 .taken) (omega arith)
 
 add-at : tie.Need-add-at Inv-loop μ-loop
 add-at c = omega arith
@@ -33,7 +34,7 @@ loop-less : tie.Need-loop-less Inv-loop μ-loop
 loop-less c = omega arith
 
 loop-again : tie.Need-loop-again Inv-loop μ-loop
-loop-again c = (behind-next (c .before .before .before .before .before .args .text .now) (c .before .before .before .loop .i) (c .before .before .before .loop .at) (c .before .before .before .loop .inv .0) (c .before .line-end .ensures) (c .if1 .left), omega arith)
+loop-again c = (start-next (c .before .before .before .before .before .args .text .now) (c .before .before .before .loop .i) (c .before .before .before .loop .at) (c .before .before .before .loop .inv .0) (c .before .line-end .ensures) (c .if1 .left), omega arith)
 
 returns-2 : tie.Need-returns-2 Inv-loop μ-loop
 returns-2 c = let e : c .before .loop .i ≡ c .before .before .before .args .k = omega arith in rw (← e) (c .before .loop .inv .0)

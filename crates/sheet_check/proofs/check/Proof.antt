@@ -1,5 +1,6 @@
 -- 3 comes first, then the text is judged, and a sheet is worked.
-use Rattle.sheet_check.proofs.Walking.{called-short-sets, called-short-work, called-refused, called-worked, is-sheet}
+use Rattle.sheet.proofs.Judging.{fine-sheet}
+use Rattle.sheet_check.proofs.Walking.{called-short-sets, called-short-work, called-refused, called-worked}
 use borrow.Author.Needs.{needs}
 use Rattle.sheet_check.proofs.check.Statement.{statement}
 use Rattle.sheet_check.proofs.check.Tie as tie
@@ -17,7 +18,7 @@ enum-known-n : tie.Need-enum-known-n
 enum-known-n c = search needs
 
 check-sheet-requires : tie.Need-check-sheet-requires
-check-sheet-requires c κs = (is-sheet (c .before .before .before .before .before .before .before .before .before .args .text .now) (c .before .before .before .before .before .before .before .before .before .args .sets .now) (c .before .before .before .before .before .before .before .before .before .args .work .now) (c .before .before .before .before .before .before .before .if1 .left) (c .before .before .before .before .before .before .if2 .left) (c .before .before .before .before .before .judge-text .ensures .1) (c .before .before .before .n .given .1), c .before .before .before .before .before .before .before .if1 .left, c .before .before .before .before .before .before .if2 .left)
+check-sheet-requires c κs = (fine-sheet (c .before .before .before .before .before .before .before .before .before .args .text .now) (c .before .before .before .before .before .judge-text .ensures .1) (c .before .before .before .n .given .1), c .before .before .before .before .before .before .before .if1 .left, c .before .before .before .before .before .before .if2 .left)
 
 enum-known-k : tie.Need-enum-known-k
 enum-known-k c = search needs

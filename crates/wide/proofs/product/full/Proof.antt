@@ -1,8 +1,9 @@
--- Each column of the long multiplication leaves room for the carry of the one before, and the columns add up to the product.
+-- Each column of the long multiplication leaves room for the carry of the one before, and the columns add up to the product; the lower two are what is left
+-- modulo 2^64.
 -- Assumes nothing.
 use borrow.Author.Needs.{needs}
-use mathlib.Core.Path.{sym, _∙_}
-use Prim.Native.Nat.{_*_, _/_, _%_, _^_}
+use mathlib.Core.Path.{_≡_, sym, ap, _∙_}
+use Prim.Native.Nat.{ℕ, _+_, _*_, _/_, _%_, _^_, _<_}
 use native.Mathlib.Omega.{arith}
 use Rattle.number.proofs.Halves.{Halves, halves, whole-product, columns}
 use Rattle.wide.proofs.product.full.Statement.{statement}
@@ -35,19 +36,25 @@ add-hi c = omega (arith, facts c)
 add-hi-2 : tie.Need-add-hi-2
 add-hi-2 c = omega (arith, facts c)
 
-mul-lo : tie.Need-mul-lo
-mul-lo c = search needs
+wrapping-mul-u64-requires : tie.Need-wrapping-mul-u64-requires
+wrapping-mul-u64-requires c κs = search needs
 
-add-lo : tie.Need-add-lo
-add-lo c = search needs
+-- the lower word, by the upper one and some lower word
+low-word : (h l n : ℕ) → l < 2 ^ 64 → h * 2 ^ 64 + l ≡ n → h * 2 ^ 64 + n % 2 ^ 64 ≡ n
+low-word h l n k e = omega arith
 
 returns : tie.Need-returns
 returns c =
-    let a = c .args .a in
-    let b = c .args .b in
-    columns (a / 2 ^ 32 * (b / 2 ^ 32)) (a / 2 ^ 32 * (b % 2 ^ 32)) (a % 2 ^ 32 * (b / 2 ^ 32)) (a % 2 ^ 32 * (b % 2 ^ 32)) ∙ sym (whole-product a b)
+    let a = c .before .args .a in
+    let b = c .before .args .b in
+    let h = a / 2 ^ 32 * (b / 2 ^ 32) in
+    let m = a / 2 ^ 32 * (b % 2 ^ 32) in
+    let n = a % 2 ^ 32 * (b / 2 ^ 32) in
+    let l = a % 2 ^ 32 * (b % 2 ^ 32) in
+    ap (λ (w : ℕ). (h + (m + l / 2 ^ 32) / 2 ^ 32 + (n + (m + l / 2 ^ 32) % 2 ^ 32) / 2 ^ 32) * 2 ^ 64 + w) (c .wrapping-mul-u64 .ensures)
+    ∙ low-word (h + (m + l / 2 ^ 32) / 2 ^ 32 + (n + (m + l / 2 ^ 32) % 2 ^ 32) / 2 ^ 32) ((n + (m + l / 2 ^ 32) % 2 ^ 32) % 2 ^ 32 * 2 ^ 32 + l % 2 ^ 32) (a * b) (omega arith) (columns h m n l ∙ sym (whole-product a b))
 
 pub full-spec : {M : Type 1} → statement M
 full-spec =
     tie.close
-    (tie.spec mul-low mul-mid add-mid mul-next add-next mul-hi add-hi add-hi-2 mul-lo add-lo returns)
+    (tie.spec mul-low mul-mid add-mid mul-next add-next mul-hi add-hi add-hi-2 wrapping-mul-u64-requires returns)

@@ -1,6 +1,0 @@
-// What C, Rust and Python call: each function is one call of a library crate's function, with that function's contract. An answer that is an enum there is a
-// struct of numbers here.
-pub mod numbers;
-pub mod sets;
-pub mod sheets;
-pub mod texts;

@@ -1,0 +1,170 @@
+-- Demand 2 for the calls, proved: a call that refuses nothing had normal arguments, and what it wrote are the ends of the definitions' answer; so `demand2` speaks of it. Assumes nothing.
+use lib.Dec.{ltb, eqb}
+use lib.IntN.{ℤ}
+use lib.ListN.{length, take}
+use mathlib.Core.Path.{_≡_, refl, sym, ap, subst, _∙_}
+use mathlib.Core.Bool.{Bool, true, false, cond}
+use mathlib.Core.List.{List, []}
+use Prim.Native.Nat.{ℕ}
+use native.Mathlib.Omega.{arith}
+use borrow.Author.Tests.{eq-eqb, eqb-true}
+use Rattle.meaning.specs.Lists.{All, over}
+use Rattle.meaning.specs.Refusals.{notNormal, tooMany, tooShort, noRoom}
+use Rattle.meaning.specs.Number.{InRange, Op1, neg, abs, Op2, add, sub, point1}
+use Rattle.meaning.specs.NumberIntervals.{Set, _∈_, Normal, union, intersect, set1, set2, flag1, flag2, flat, intervals, normal}
+use Rattle.meaning.specs.SetCalls.{Returned, written, refused, refusal, refusal2, factor1, factor2, need1, need2, callReturns, callOut}
+use Rattle.meaning.specs.Demand2.{Only1, Only2}
+use Rattle.meaning.specs.Demand2Calls.{shown, CallOnly1, CallOnly2, CallsRight}
+use Rattle.meaning.proofs.Integers.{clash}
+use Rattle.meaning.proofs.Over.{take-over}
+use Rattle.meaning.proofs.Flat.{intervals-flat, ends-normal}
+use Rattle.meaning.proofs.Demand2.{demand2}
+
+-- ---- an argument that is not refused is normal
+
+unrefused : (s : List ℤ) → refusal s ≡ 0 → normal s ≡ true
+unfolding refusal
+unrefused s e = go (ltb 32 (length s)) (normal s) refl e
+  where
+    go : (a b : Bool) → normal s ≡ b → cond a tooMany (cond b 0 notNormal) ≡ 0 → normal s ≡ true
+    go true b p e = absurd (omega arith)
+    go false true p e = p
+    go false false p e = absurd (omega arith)
+
+unrefused2 : (left right : List ℤ) → refusal2 left right ≡ 0 → (refusal left ≡ 0) × (refusal right ≡ 0)
+unfolding refusal2
+unrefused2 left right e = go (eqb (refusal left) 0) refl e
+  where
+    go : (a : Bool) → eqb (refusal left) 0 ≡ a → cond a (refusal right) (refusal left) ≡ 0 → (refusal left ≡ 0) × (refusal right ≡ 0)
+    go true p e = (eqb-true (refusal left) 0 p, e)
+    go false p e = clash (eq-eqb (refusal left) 0 e) p
+
+argument-normal : (s : List ℤ) → All InRange s → refusal s ≡ 0 → Normal (intervals s)
+argument-normal s h e = ends-normal s (unrefused s e) h
+
+-- ---- what a call that refuses nothing returns and writes
+
+module _ (k need : ℕ) (answer : Set) (flag : Bool) (out work : List ℤ) where
+  pub record Wrote : Type 0 where
+    pub unrefused-args : k ≡ 0
+    pub returned : callReturns k need answer flag out work ≡ written (length (flat answer)) flag
+    pub left : callOut k need answer flag out work ≡ over (flat answer) out
+
+  call-wrote : callReturns k need answer flag out work .number ≡ 0 → Wrote
+  unfolding callReturns callOut
+  call-wrote e = go (eqb k 0) (ltb (length work) need) (ltb (length out) (length (flat answer))) refl refl refl e
+    where
+      n : ℕ
+      n = length (flat answer)
+
+      go : (a b c : Bool) → eqb k 0 ≡ a → ltb (length work) need ≡ b → ltb (length out) n ≡ c
+          → cond a (cond b (refused tooShort) (cond c (refused noRoom) (written n flag))) (refused k) .number ≡ 0 → Wrote
+      go true true c p q r e = absurd (omega arith)
+      go true false true p q r e = absurd (omega arith)
+      go true false false p q r e = record { unrefused-args = eqb-true k 0 p; returned = rw (p, q, r) refl; left = rw (p, q, r) refl }
+      go false b c p q r e = clash (eq-eqb k 0 e) p
+
+  -- so its numbers show the answer
+  shows : Wrote → shown (callReturns k need answer flag out work) (callOut k need answer flag out work) ≡ answer
+  shows w =
+      (λ i. intervals (take (w .returned i .count) (w .left i)))
+      ∙ ap intervals (take-over (flat answer) out)
+      ∙ intervals-flat answer
+
+  flagged : Wrote → callReturns k need answer flag out work .flag ≡ flag
+  flagged w = ap (λ (r : Returned). r .flag) (w .returned)
+
+-- ---- one operand
+
+module _ (o : Op1) (left : List ℤ) (flag : Bool) (out work : List ℤ) where
+  wrote1 : callReturns (refusal left) (need1 (factor1 o) left) (set1 o (intervals left)) (flag1 o flag) out work .number ≡ 0
+      → Wrote (refusal left) (need1 (factor1 o) left) (set1 o (intervals left)) (flag1 o flag) out work
+  wrote1 e = call-wrote (refusal left) (need1 (factor1 o) left) (set1 o (intervals left)) (flag1 o flag) out work e
+
+  shows1 : Wrote (refusal left) (need1 (factor1 o) left) (set1 o (intervals left)) (flag1 o flag) out work
+      → shown (callReturns (refusal left) (need1 (factor1 o) left) (set1 o (intervals left)) (flag1 o flag) out work) (callOut (refusal left) (need1 (factor1 o) left) (set1 o (intervals left)) (flag1 o flag) out work)
+      ≡ set1 o (intervals left)
+  shows1 w = shows (refusal left) (need1 (factor1 o) left) (set1 o (intervals left)) (flag1 o flag) out work w
+
+only1 : (o : Op1) → Only1 o → CallOnly1 o
+only1 o only left flag out work h e z m =
+    let w = wrote1 o left flag out work e in
+    only (intervals left) z (argument-normal left h (w .unrefused-args)) (subst (λ (s : Set). z ∈ s) (shows1 o left flag out work w) m)
+
+-- ---- two operands: `answer` is what the definitions give
+
+module _ (need : ℕ) (answer : Set) (flag : Bool) (left right out work : List ℤ) (h : All InRange left) (g : All InRange right)
+    (e : callReturns (refusal2 left right) need answer flag out work .number ≡ 0) where
+  wrote2 : Wrote (refusal2 left right) need answer flag out work
+  wrote2 = call-wrote (refusal2 left right) need answer flag out work e
+
+  normal-left : Normal (intervals left)
+  normal-left = argument-normal left h (unrefused2 left right (wrote2 .unrefused-args) .0)
+
+  normal-right : Normal (intervals right)
+  normal-right = argument-normal right g (unrefused2 left right (wrote2 .unrefused-args) .1)
+
+  shows2 : shown (callReturns (refusal2 left right) need answer flag out work) (callOut (refusal2 left right) need answer flag out work) ≡ answer
+  shows2 = shows (refusal2 left right) need answer flag out work wrote2
+
+only2 : (o : Op2) → Only2 o → CallOnly2 o
+only2 o only left flag right out work h g e z m =
+    let need = need2 (factor2 o) left right in
+    let answer = set2 o (intervals left) (intervals right) in
+    let f = flag2 o flag (intervals left) (intervals right) in
+    only (intervals left) (intervals right) z (normal-left need answer f left right out work h g e) (normal-right need answer f left right out work h g e)
+    (subst (λ (s : Set). z ∈ s) (shows2 need answer f left right out work h g e) m)
+
+pub demand2-calls : CallsRight
+demand2-calls = record {
+  call1 = λ o left flag out work h e.
+      let w = wrote1 o left flag out work e in
+      let n = argument-normal left h (w .unrefused-args) in
+      let s = sym (shows1 o left flag out work w) in
+      record {
+        left-normal = n;
+        normal = subst Normal s (demand2 .normal1 o (intervals left) n);
+        holds = λ x m. subst (λ (a : Set). point1 o x ∈ a) s (demand2 .holds1 o (intervals left) (point1 o x) n (record { member = x; member-in = m; gives = refl }));
+        flagged = flagged (refusal left) (need1 (factor1 o) left) (set1 o (intervals left)) (flag1 o flag) out work w;
+      };
+  call2 = λ o left flag right out work h g e.
+      let need = need2 (factor2 o) left right in
+      let answer = set2 o (intervals left) (intervals right) in
+      let f = flag2 o flag (intervals left) (intervals right) in
+      let n = normal-left need answer f left right out work h g e in
+      let k = normal-right need answer f left right out work h g e in
+      let s = sym (shows2 need answer f left right out work h g e) in
+      record {
+        left-normal = n;
+        right-normal = k;
+        normal = subst Normal s (demand2 .normal2 o (intervals left) (intervals right) n k);
+        holds = λ x y z mx my r. subst (λ (a : Set). z ∈ a) s (demand2 .holds2 o (intervals left) (intervals right) z n k (record { left = x; right = y; left-in = mx; right-in = my; gives = r }));
+        flagged = flagged (refusal2 left right) need answer f out work (wrote2 need answer f left right out work h g e);
+      };
+  neg-only = only1 neg (demand2 .neg-only);
+  abs-only = only1 abs (demand2 .abs-only);
+  add-only = only2 add (demand2 .add-only);
+  sub-only = only2 sub (demand2 .sub-only);
+  union-just = λ left right out h g e.
+      let a = intervals left in
+      let b = intervals right in
+      let n = normal-left 0 (union a b) false left right out [] h g e in
+      let k = normal-right 0 (union a b) false left right out [] h g e in
+      let s = shows2 0 (union a b) false left right out [] h g e in
+      record {
+        normal = subst Normal (sym s) (demand2 .union-normal a b n k);
+        holds = λ z m. subst (λ (x : Set). z ∈ x) (sym s) (demand2 .union-holds a b z n k m);
+        only = λ z m. demand2 .union-only a b z n k (subst (λ (x : Set). z ∈ x) s m);
+      };
+  intersect-just = λ left right out h g e.
+      let a = intervals left in
+      let b = intervals right in
+      let n = normal-left 0 (intersect a b) false left right out [] h g e in
+      let k = normal-right 0 (intersect a b) false left right out [] h g e in
+      let s = shows2 0 (intersect a b) false left right out [] h g e in
+      record {
+        normal = subst Normal (sym s) (demand2 .intersect-normal a b n k);
+        holds = λ z m. subst (λ (x : Set). z ∈ x) (sym s) (demand2 .intersect-holds a b z n k (m .0) (m .1));
+        only = λ z m. demand2 .intersect-only a b z n k (subst (λ (x : Set). z ∈ x) s m);
+      };
+}

@@ -1,0 +1,64 @@
+-- Demand 2 for the calls: the set that a call writes where it refuses nothing. The numbers of a slice are i64, so they are from MIN to MAX.
+-- The theorem is `demand2-calls` of proofs/Demand2Calls.antt. Assumes nothing.
+use lib.IntN.{ℤ}
+use lib.ListN.{take}
+use mathlib.Core.Path.{_≡_}
+use mathlib.Core.Bool.{Bool}
+use mathlib.Core.Logic.{_⊎_}
+use mathlib.Core.List.{List}
+use mathlib.Core.Option.{Option, some}
+use Rattle.meaning.specs.Lists.{All}
+use Rattle.meaning.specs.Number.{InRange, Op1, neg, abs, Op2, add, sub, point1, point2}
+use Rattle.meaning.specs.NumberIntervals.{Set, _∈_, Normal, flag1, flag2, intervals}
+use Rattle.meaning.specs.SetCalls.{Returned, returns1, out1, returns2, out2, returnsUnion, outUnion, returnsIntersect, outIntersect}
+use Rattle.meaning.specs.Demand2.{Result1, Result2}
+
+-- the set that the numbers which a call has written show
+abbrev pub shown : Returned → List ℤ → Set
+shown r out = intervals (take (r .count) out)
+
+-- one operand: the argument and the answer are normal, the answer holds every point result, and the flag is the one of the definitions
+pub record Call1 (o : Op1) (left : List ℤ) (flag : Bool) (r : Returned) (out : List ℤ) : Type 0 where
+  pub left-normal : Normal (intervals left)
+  pub normal : Normal (shown r out)
+  pub holds : (x : ℤ) → x ∈ intervals left → point1 o x ∈ shown r out
+  pub flagged : r .flag ≡ flag1 o flag
+
+-- two operands
+pub record Call2 (o : Op2) (left : List ℤ) (flag : Bool) (right : List ℤ) (r : Returned) (out : List ℤ) : Type 0 where
+  pub left-normal : Normal (intervals left)
+  pub right-normal : Normal (intervals right)
+  pub normal : Normal (shown r out)
+  pub holds : (x y z : ℤ) → x ∈ intervals left → y ∈ intervals right → point2 o x y ≡ some z → z ∈ shown r out
+  pub flagged : r .flag ≡ flag2 o flag (intervals left) (intervals right)
+
+-- the answer holds nothing but point results
+abbrev pub CallOnly1 : Op1 → Type 0
+CallOnly1 o =
+    (left : List ℤ) (flag : Bool) (out work : List ℤ) → All InRange left → returns1 o left flag out work .number ≡ 0
+    → (z : ℤ) → z ∈ shown (returns1 o left flag out work) (out1 o left flag out work) → Result1 o (intervals left) z
+
+abbrev pub CallOnly2 : Op2 → Type 0
+CallOnly2 o =
+    (left : List ℤ) (flag : Bool) (right out work : List ℤ) → All InRange left → All InRange right → returns2 o left flag right out work .number ≡ 0
+    → (z : ℤ) → z ∈ shown (returns2 o left flag right out work) (out2 o left flag right out work) → Result2 o (intervals left) (intervals right) z
+
+-- the answer is normal and has just the members that `is` says
+pub record CallJust (is : ℤ → Type 0) (r : Returned) (out : List ℤ) : Type 0 where
+  pub normal : Normal (shown r out)
+  pub holds : (z : ℤ) → is z → z ∈ shown r out
+  pub only : (z : ℤ) → z ∈ shown r out → is z
+
+pub record CallsRight : Type 0 where
+  pub call1 : (o : Op1) (left : List ℤ) (flag : Bool) (out work : List ℤ) → All InRange left → returns1 o left flag out work .number ≡ 0
+      → Call1 o left flag (returns1 o left flag out work) (out1 o left flag out work)
+  pub call2 : (o : Op2) (left : List ℤ) (flag : Bool) (right out work : List ℤ) → All InRange left → All InRange right → returns2 o left flag right out work .number ≡ 0
+      → Call2 o left flag right (returns2 o left flag right out work) (out2 o left flag right out work)
+  pub neg-only : CallOnly1 neg
+  pub abs-only : CallOnly1 abs
+  pub add-only : CallOnly2 add
+  pub sub-only : CallOnly2 sub
+  pub union-just : (left right out : List ℤ) → All InRange left → All InRange right → returnsUnion left right out .number ≡ 0
+      → CallJust (λ z. (z ∈ intervals left) ⊎ (z ∈ intervals right)) (returnsUnion left right out) (outUnion left right out)
+  pub intersect-just : (left right out : List ℤ) → All InRange left → All InRange right → returnsIntersect left right out .number ≡ 0
+      → CallJust (λ z. (z ∈ intervals left) × (z ∈ intervals right)) (returnsIntersect left right out) (outIntersect left right out)
