@@ -1,28 +1,20 @@
 // Sets of numbers that travel as ends in slices, the flag beside them. An argument is a normal set of at most 16 intervals: sorted, no overlap, at least one
 // number missing between neighbours. Special are the empty slice, which is the empty set, an odd length, which is no set, and a divisor that holds 0, which
 // sets the flag. Each call returns how many numbers it wrote and the flag, or a refusal; what follows the answer, or the need of work, is as lent.
-use call::Walk;
-use call::joined;
-use call::negated;
-use call::related;
-use call::walked;
 use cores::Op;
 use cores::Relation;
+use set_calls::Reply;
+use set_calls::call::Walk;
+use set_calls::call::joined;
+use set_calls::call::negated;
+use set_calls::call::related;
+use set_calls::call::walked;
 ghost use mathlib.Core.Path.{_≡_};
 ghost use mathlib.Core.Bool.{false};
 ghost use mathlib.Core.List.{[]};
 ghost use Rattle.meaning.specs.Number as point;
 ghost use Rattle.meaning.specs.SetCalls.{returns1, out1, work1, returns2, out2, work2, returnsUnion, outUnion, returnsIntersect, outIntersect};
-ghost use Rattle.number_intervals.specs.Returning.{replyFor};
-
-pub mod call;
-pub mod ending;
-
-// How many numbers were written, and the flag; or the number of the refusal.
-pub enum Reply {
-    Written(usize, bool),
-    Refused(u8),
-}
+ghost use Rattle.set_calls.specs.Returning.{replyFor};
 
 // The set of the negatives of all members.
 pub fn neg(left: &[i64], flag: bool, work: &mut [i64], out: &mut [i64]) -> Reply

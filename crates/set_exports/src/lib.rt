@@ -5,9 +5,9 @@ ghost use mathlib.Core.Bool.{false};
 ghost use mathlib.Core.List.{[]};
 ghost use Rattle.meaning.specs.Number as point;
 ghost use Rattle.meaning.specs.SetCalls.{returns1, out1, work1, returns2, out2, work2, returnsUnion, outUnion, returnsIntersect, outIntersect};
-ghost use Rattle.number_intervals.specs.Returning.{returned};
+ghost use Rattle.set_calls.specs.Returning.{returned};
 ghost use Rattle.set_exports.specs.Answers.{answerOf};
-use number_intervals::Reply;
+use set_calls::Reply;
 
 // 0, how many numbers were written, and the flag; or the number of a refusal, count 0 and flag false.
 #[repr(C)]

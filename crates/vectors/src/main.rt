@@ -1,7 +1,7 @@
 // Replays stored answers of the original Rust, and writes a line for each operation: how many cases, and whether all agree. The cases are files of data/,
 // whose README says how they were made.
 mod points;
-mod set_calls;
+mod sets;
 
 use replay::Step;
 use replay::Tally;
@@ -14,7 +14,7 @@ const TURNS: usize = 1000000;
 
 fn next_case(op: u8, fd: i32) -> Step {
     if op < SETS {
-        set_calls::next_case(op, fd)
+        sets::next_case(op, fd)
     } else {
         points::next_case(op - SETS, fd)
     }

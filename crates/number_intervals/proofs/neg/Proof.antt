@@ -4,7 +4,7 @@ use lib.ListN.{replicate}
 use Rattle.meaning.specs.NumberIntervals.{intervals}
 use Rattle.cores.specs.Operation.{neg-alone}
 use Rattle.cores.proofs.Operations.{alone-is}
-use Rattle.number_intervals.proofs.Calls.{alone-asks}
+use Rattle.set_calls.proofs.Calls.{alone-asks}
 use borrow.Author.Needs.{needs}
 use Rattle.number_intervals.proofs.neg.Statement.{statement}
 use Rattle.number_intervals.proofs.neg.Tie as tie

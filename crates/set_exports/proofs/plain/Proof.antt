@@ -1,7 +1,7 @@
 -- Each case of the library's reply has one form of the struct.
 use borrow.Author.Needs.{needs}
 use mathlib.Core.Path.{ap, sym}
-use Rattle.number_intervals.specs.Returning.{returned}
+use Rattle.set_calls.specs.Returning.{returned}
 use Rattle.set_exports.proofs.plain.Statement.{statement}
 use Rattle.set_exports.proofs.plain.Tie as tie
 
