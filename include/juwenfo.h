@@ -5,7 +5,7 @@
  * and at least one number is missing between neighbours. The empty set has length 0. A set's flag stands beside it: a div or rem on the way to it
  * had a divisor that may be 0. docs/SHEETS.md teaches sheets: forms, registers, `in`, `hold`, LO and HI.
  *
- * Every call is total: it has no precondition on the numbers, bytes and lengths that it is given, and refuses by number instead.
+ * Every call is total: it has no precondition on the numbers, bytes and lengths that it is given, and refuses by number instead (the listing by `fits`).
  * What the caller sees to, for every call: each pointer is good for the length that follows it (NULL only with length 0), and what is behind a
  * pointer without const overlaps nothing else that is lent to the same call and is used by nobody else until it returns. docs/CALLERS.md says more.
  *
@@ -32,7 +32,7 @@ extern "C" {
 #define JUWENFO_WORK 8192   /* numbers of work that the check needs; the most that any set call needs */
 #define JUWENFO_LENT 16     /* numbers that the run needs, one a register */
 #define JUWENFO_TEXT 30976  /* bytes of the longest text that is not refused with 5 */
-#define JUWENFO_LISTING 11081 /* bytes of the longest listing: an out of so many is never too short */
+#define JUWENFO_LISTING 11081 /* bytes that hold any listing: an out of so many is never too short */
 
 /* ---- point operations */
 
@@ -106,7 +106,7 @@ typedef struct {
     size_t length;
 } juwenfo_part;
 
-/* Line `n` of any bytes, counted from 1, without its LF (byte 10). Line 0, and a line that no LF ends, are empty. Refuses nothing. */
+/* Line `n` of any bytes, counted from 1, without its LF (byte 10). Line 0, and a line that no LF ends, are empty: start 0, length 0. Refuses nothing. */
 juwenfo_part juwenfo_line(const uint8_t *text, size_t text_len, size_t n);
 
 /* number 0: fine, `count` lines, line 0. Else the number of the refusal or finding, its line (0 for 3 and 5), and count 0. */

@@ -21,7 +21,14 @@ use Rattle.meaning.proofs.Members.{AllProper, between, normal-proper}
 use Rattle.meaning.proofs.Integers.{≤ℤ-trans}
 use Rattle.meaning.proofs.Cut.{reads, read-length}
 use Rattle.meaning.proofs.CheckSets.{passed-sound}
-use Rattle.listing.specs.Longest.{intervalMost, lineMost, longest}
+use Rattle.listing.specs.Longest.{longest}
+
+-- of an interval, and of a register's line
+abbrev intervalMost : ℕ
+intervalMost = 43
+
+abbrev lineMost : ℕ
+lineMost = 692
 
 -- ---- one line of a refusal or a finding
 

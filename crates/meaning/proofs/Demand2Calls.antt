@@ -14,7 +14,7 @@ use Rattle.meaning.specs.Number.{InRange, Op1, neg, abs, Op2, add, sub, 
 use Rattle.meaning.specs.NumberIntervals.{Set, _∈_, Normal, union, intersect, set1, set2, flag1, flag2, flat, intervals, normal}
 use Rattle.meaning.specs.SetCalls.{Returned, written, refused, refusal, refusal2, factor1, factor2, need1, need2, callReturns, callOut}
 use Rattle.meaning.specs.Demand2.{Only1, Only2}
-use Rattle.meaning.specs.Demand2Calls.{shown, CallOnly1, CallOnly2, CallsRight}
+use Rattle.meaning.specs.Demand2Calls.{shown, CallOnly1, CallOnly2, CallJust, CallsRight}
 use Rattle.meaning.proofs.Integers.{clash}
 use Rattle.meaning.proofs.Over.{take-over}
 use Rattle.meaning.proofs.Flat.{intervals-flat, ends-normal}
@@ -115,6 +115,26 @@ only2 o only left flag right out work h g e z m =
     only (intervals left) (intervals right) z (normal-left need answer f left right out work h g e) (normal-right need answer f left right out work h g e)
     (subst (λ (s : Set). z ∈ s) (shows2 need answer f left right out work h g e) m)
 
+-- a call without work whose answer has just the members that `is` says
+module _ (answer : Set) (left right out : List ℤ) (h : All InRange left) (g : All InRange right)
+    (e : callReturns (refusal2 left right) 0 answer false out [] .number ≡ 0) {is : ℤ → Type 0} where
+  just : (Normal (intervals left) → Normal (intervals right) → Normal answer)
+      → ((z : ℤ) → Normal (intervals left) → Normal (intervals right) → is z → z ∈ answer)
+      → ((z : ℤ) → Normal (intervals left) → Normal (intervals right) → z ∈ answer → is z)
+      → CallJust is left right (callReturns (refusal2 left right) 0 answer false out []) (callOut (refusal2 left right) 0 answer false out [])
+  just p holds only =
+      let n = normal-left 0 answer false left right out [] h g e in
+      let k = normal-right 0 answer false left right out [] h g e in
+      let s = shows2 0 answer false left right out [] h g e in
+      record {
+        left-normal = n;
+        right-normal = k;
+        normal = subst Normal (sym s) (p n k);
+        holds = λ z m. subst (λ (x : Set). z ∈ x) (sym s) (holds z n k m);
+        only = λ z m. only z n k (subst (λ (x : Set). z ∈ x) s m);
+        flagged = flagged (refusal2 left right) 0 answer false out [] (wrote2 0 answer false left right out [] h g e);
+      }
+
 pub demand2-calls : CallsRight
 demand2-calls = record {
   call1 = λ o left flag out work h e.
@@ -145,26 +165,12 @@ demand2-calls = record {
   abs-only = only1 abs (demand2 .abs-only);
   add-only = only2 add (demand2 .add-only);
   sub-only = only2 sub (demand2 .sub-only);
-  union-just = λ left right out h g e.
-      let a = intervals left in
-      let b = intervals right in
-      let n = normal-left 0 (union a b) false left right out [] h g e in
-      let k = normal-right 0 (union a b) false left right out [] h g e in
-      let s = shows2 0 (union a b) false left right out [] h g e in
-      record {
-        normal = subst Normal (sym s) (demand2 .union-normal a b n k);
-        holds = λ z m. subst (λ (x : Set). z ∈ x) (sym s) (demand2 .union-holds a b z n k m);
-        only = λ z m. demand2 .union-only a b z n k (subst (λ (x : Set). z ∈ x) s m);
-      };
-  intersect-just = λ left right out h g e.
-      let a = intervals left in
-      let b = intervals right in
-      let n = normal-left 0 (intersect a b) false left right out [] h g e in
-      let k = normal-right 0 (intersect a b) false left right out [] h g e in
-      let s = shows2 0 (intersect a b) false left right out [] h g e in
-      record {
-        normal = subst Normal (sym s) (demand2 .intersect-normal a b n k);
-        holds = λ z m. subst (λ (x : Set). z ∈ x) (sym s) (demand2 .intersect-holds a b z n k (m .0) (m .1));
-        only = λ z m. demand2 .intersect-only a b z n k (subst (λ (x : Set). z ∈ x) s m);
-      };
+  union-just = λ left right out h g e. just (union (intervals left) (intervals right)) left right out h g e
+      (demand2 .union-normal (intervals left) (intervals right))
+      (λ z n k. demand2 .union-holds (intervals left) (intervals right) z n k)
+      (λ z n k. demand2 .union-only (intervals left) (intervals right) z n k);
+  intersect-just = λ left right out h g e. just (intersect (intervals left) (intervals right)) left right out h g e
+      (demand2 .intersect-normal (intervals left) (intervals right))
+      (λ z n k m. demand2 .intersect-holds (intervals left) (intervals right) z n k (m .0) (m .1))
+      (λ z n k. demand2 .intersect-only (intervals left) (intervals right) z n k);
 }

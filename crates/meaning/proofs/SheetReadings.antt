@@ -3,7 +3,7 @@ use mathlib.Core.Path.{refl}
 use Rattle.meaning.specs.Lists.{over}
 use Rattle.meaning.specs.Number.{within, window, wrap, negative, sum, quotient, point1, point2}
 use Rattle.meaning.specs.Interval.{each, without, negPair, pieces, spread, leastCorner, greatestCorner, divPiece, divPart, divPair}
-use Rattle.meaning.specs.NumberIntervals.{contains, insert, rebuild, asBools, ofBools, set1, set2, flag1, flag2, flat, intervals, normal}
+use Rattle.meaning.specs.NumberIntervals.{contains, insert, rebuild, union, meetPair, intersect, asBools, ofBools, set1, set2, flag1, flag2, flat, intervals, normal}
 use Rattle.meaning.specs.SetCalls.{factor1, factor2, refusal, refusal2, callReturns, callOut, callWork}
 use Rattle.meaning.specs.Outcome.{bind, work}
 use Rattle.meaning.specs.Sheet.{farForm, farAct, farLine, crossedAct, crossedLine}
@@ -14,7 +14,7 @@ use Rattle.meaning.specs.Check.{inside, settle, setOf, checkAct, checkLi
 use Rattle.meaning.specs.SheetReadings.{SheetReadings}
 
 pub sheet-readings : SheetReadings
-unfolding over within window wrap negative sum quotient point1 point2 each without negPair pieces spread leastCorner greatestCorner divPiece divPart divPair contains insert rebuild asBools ofBools set1 set2 flag1 flag2 flat intervals normal factor1 factor2 refusal refusal2 callReturns callOut callWork bind work farForm farAct farLine crossedAct crossedLine closed begins digits number scale decimals unsigned literal registerWith head start arg form bounds value actOf lineOf wholeLine judged readLine splitLines lineAt cut admit readOne readLines read valueOf runAct runLine startNumbers run runText runCall runLent inside settle setOf checkAct checkLine check checkText checkCall slot
+unfolding over within window wrap negative sum quotient point1 point2 each without negPair pieces spread leastCorner greatestCorner divPiece divPart divPair contains insert rebuild union meetPair intersect asBools ofBools set1 set2 flag1 flag2 flat intervals normal factor1 factor2 refusal refusal2 callReturns callOut callWork bind work farForm farAct farLine crossedAct crossedLine closed begins digits number scale decimals unsigned literal registerWith head start arg form bounds value actOf lineOf wholeLine judged readLine splitLines lineAt cut admit readOne readLines read valueOf runAct runLine startNumbers run runText runCall runLent inside settle setOf checkAct checkLine check checkText checkCall slot
 sheet-readings = record {
   many-before-odd = refl;
   odd = refl;
@@ -28,6 +28,8 @@ sheet-readings = record {
   neg-returns = refl;
   neg-out = refl;
   neg-work = refl;
+  union-returns = refl;
+  intersect-returns = refl;
   short-work = refl;
   short-work-left = refl;
   short-out = refl;

@@ -3,7 +3,7 @@
 use lib.IntN.{ℤ}
 use lib.ListN.{take}
 use mathlib.Core.Path.{_≡_}
-use mathlib.Core.Bool.{Bool}
+use mathlib.Core.Bool.{Bool, false}
 use mathlib.Core.Logic.{_⊎_}
 use mathlib.Core.List.{List}
 use mathlib.Core.Option.{Option, some}
@@ -43,11 +43,14 @@ CallOnly2 o =
     (left : List ℤ) (flag : Bool) (right out work : List ℤ) → All InRange left → All InRange right → returns2 o left flag right out work .number ≡ 0
     → (z : ℤ) → z ∈ shown (returns2 o left flag right out work) (out2 o left flag right out work) → Result2 o (intervals left) (intervals right) z
 
--- the answer is normal and has just the members that `is` says
-pub record CallJust (is : ℤ → Type 0) (r : Returned) (out : List ℤ) : Type 0 where
+-- union and intersect: the answer is normal, has just the members that `is` says, and no flag
+pub record CallJust (is : ℤ → Type 0) (left right : List ℤ) (r : Returned) (out : List ℤ) : Type 0 where
+  pub left-normal : Normal (intervals left)
+  pub right-normal : Normal (intervals right)
   pub normal : Normal (shown r out)
   pub holds : (z : ℤ) → is z → z ∈ shown r out
   pub only : (z : ℤ) → z ∈ shown r out → is z
+  pub flagged : r .flag ≡ false
 
 pub record CallsRight : Type 0 where
   pub call1 : (o : Op1) (left : List ℤ) (flag : Bool) (out work : List ℤ) → All InRange left → returns1 o left flag out work .number ≡ 0
@@ -59,6 +62,6 @@ pub record CallsRight : Type 0 where
   pub add-only : CallOnly2 add
   pub sub-only : CallOnly2 sub
   pub union-just : (left right out : List ℤ) → All InRange left → All InRange right → returnsUnion left right out .number ≡ 0
-      → CallJust (λ z. (z ∈ intervals left) ⊎ (z ∈ intervals right)) (returnsUnion left right out) (outUnion left right out)
+      → CallJust (λ z. (z ∈ intervals left) ⊎ (z ∈ intervals right)) left right (returnsUnion left right out) (outUnion left right out)
   pub intersect-just : (left right out : List ℤ) → All InRange left → All InRange right → returnsIntersect left right out .number ≡ 0
-      → CallJust (λ z. (z ∈ intervals left) × (z ∈ intervals right)) (returnsIntersect left right out) (outIntersect left right out)
+      → CallJust (λ z. (z ∈ intervals left) × (z ∈ intervals right)) left right (returnsIntersect left right out) (outIntersect left right out)

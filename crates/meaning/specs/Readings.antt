@@ -66,7 +66,7 @@ pub record Readings : Type 0 where
   pub rem-negative : set2 rem (span MIN MIN) (span (pos 5) (pos 7)) ≡ span (negsuc 5) (pos 0)
   -- (d): L holds MIN and more
   pub rem-against : set2 rem (span MIN (negsuc (2 ^ 63 - 2))) (span MIN MIN) ≡ span MIN (pos 0)
-  -- (a), (b), (c), (d), (f), one in the other: [MIN,5] rem [MIN,0]
+  -- (a), (b), (c), (d), (f), and (e) in it, one in the other: [MIN,5] rem [MIN,0]
   pub rem-nested : set2 rem (span MIN (pos 5)) (span MIN (pos 0)) ≡ span MIN (pos (2 ^ 63 - 2))
   pub abs-both-sides : set1 abs (span (negsuc 0) (pos 1)) ≡ span (pos 0) (pos 1)
   pub abs-only-least : set1 abs (span MIN MIN) ≡ span MIN MIN

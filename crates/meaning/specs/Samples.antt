@@ -80,5 +80,5 @@ pub record Samples : Type 0 where
   pub nothing : listing nothing-sheet ≡ nothing-listing
   -- a register of a hold alone is not listed
   pub held : listing held-sheet ≡ held-listing
-  -- 9 on line 2 is a refusal
+  -- 9 on line 2 is printed as a refusal
   pub crowd : troubleLine crowded 2 ≡ crowded-line

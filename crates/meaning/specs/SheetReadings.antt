@@ -3,13 +3,13 @@
 use lib.IntN.{ℤ, pos, negsuc}
 use lib.ListN.{drop, replicate}
 use mathlib.Core.Path.{_≡_}
-use mathlib.Core.Bool.{true}
+use mathlib.Core.Bool.{true, false}
 use mathlib.Core.List.{List, [], _∷_, _++_}
 use Rattle.meaning.specs.Refusals.{notNormal, tooMany, tooShort, noRoom, misshapen, ungrammatical, farLiteral, misplaced, crowded, zeroDivisor, holdBroken, outsideIn}
 use Rattle.meaning.specs.Outcome.{stop, done, stopped}
 use Rattle.meaning.specs.Number.{MIN, MAX, neg, abs, sub, mul, div, rem, le, or}
 use Rattle.meaning.specs.Interval.{span}
-use Rattle.meaning.specs.SetCalls.{refusal, refusal2, factor1, factor2, need1, need2, written, refused as notWritten, returns1, out1, work1}
+use Rattle.meaning.specs.SetCalls.{refusal, refusal2, factor1, factor2, need1, need2, written, refused as notWritten, returns1, out1, work1, returnsUnion, returnsIntersect}
 use Rattle.meaning.specs.Sheet.{lit, reg, form1, form2, put, hold, act}
 use Rattle.meaning.specs.Text.{sheet, noSheet, read, lineAt, cut}
 use Rattle.meaning.specs.Run.{refused, worked, runText, verdict, runCall, leftBy, runLent}
@@ -34,6 +34,9 @@ pub record SheetReadings : Type 0 where
   pub neg-returns : returns1 neg (pos 1 ∷ pos 1 ∷ []) true (replicate 3 (pos 9)) (replicate 5 (pos 7)) ≡ written 2 true
   pub neg-out : out1 neg (pos 1 ∷ pos 1 ∷ []) true (replicate 3 (pos 9)) (replicate 5 (pos 7)) ≡ negsuc 0 ∷ negsuc 0 ∷ pos 9 ∷ []
   pub neg-work : work1 neg (pos 1 ∷ pos 1 ∷ []) true (replicate 3 (pos 9)) (replicate 5 (pos 7)) ≡ pos 0 ∷ pos 0 ∷ pos 0 ∷ pos 0 ∷ pos 7 ∷ []
+  -- union and intersect have no flag
+  pub union-returns : returnsUnion (pos 1 ∷ pos 1 ∷ []) (pos 2 ∷ pos 2 ∷ []) (replicate 3 (pos 9)) ≡ written 2 false
+  pub intersect-returns : returnsIntersect (pos 1 ∷ pos 1 ∷ []) (pos 2 ∷ pos 2 ∷ []) [] ≡ written 0 false
   -- 3 comes before 4 and leaves all as lent
   pub short-work : returns1 neg (pos 1 ∷ pos 1 ∷ []) true [] (replicate 3 (pos 7)) ≡ notWritten tooShort
   pub short-work-left : work1 neg (pos 1 ∷ pos 1 ∷ []) true [] (replicate 3 (pos 7)) ≡ replicate 3 (pos 7)

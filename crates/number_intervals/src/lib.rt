@@ -68,7 +68,7 @@ pub fn mul(left: &[i64], flag: bool, right: &[i64], work: &mut [i64], out: &mut 
     joined(Op::Mul, left, flag, right, work, out)
 }
 
-// A set that holds the quotients of all members; a zero in the divisor sets the flag.
+// A set that holds the quotients of all members; a zero in the divisor sets the flag, if the left set has a member.
 pub fn div(left: &[i64], flag: bool, right: &[i64], work: &mut [i64], out: &mut [i64]) -> Reply
     ensures { λ r.
         ⌜ (r ≡ replyFor (returns2 point.div (now (left .entry)) flag (now (right .entry)) (now (out .entry)) (now (work .entry))))
@@ -78,7 +78,7 @@ pub fn div(left: &[i64], flag: bool, right: &[i64], work: &mut [i64], out: &mut 
     joined(Op::Div, left, flag, right, work, out)
 }
 
-// A set that holds the remainders of all members; a zero in the divisor sets the flag.
+// A set that holds the remainders of all members; a zero in the divisor sets the flag, if the left set has a member.
 pub fn rem(left: &[i64], flag: bool, right: &[i64], work: &mut [i64], out: &mut [i64]) -> Reply
     ensures { λ r.
         ⌜ (r ≡ replyFor (returns2 point.rem (now (left .entry)) flag (now (right .entry)) (now (out .entry)) (now (work .entry))))
@@ -88,7 +88,7 @@ pub fn rem(left: &[i64], flag: bool, right: &[i64], work: &mut [i64], out: &mut 
     joined(Op::Rem, left, flag, right, work, out)
 }
 
-// The set of what `not` may give of a member: 0, 1000 or both.
+// A set that holds what `not` gives of a member: none, 0, 1000 or both.
 pub fn not(left: &[i64], out: &mut [i64]) -> Reply
     ensures { λ r.
         ⌜ (r ≡ replyFor (returns1 point.not′ (now (left .entry)) false (now (out .entry)) []))
@@ -97,7 +97,7 @@ pub fn not(left: &[i64], out: &mut [i64]) -> Reply
     negated(left, out)
 }
 
-// The set of what `and` may give of two members: 0, 1000 or both.
+// A set that holds what `and` gives of two members: none, 0, 1000 or both.
 pub fn and(left: &[i64], right: &[i64], out: &mut [i64]) -> Reply
     ensures { λ r.
         ⌜ (r ≡ replyFor (returns2 point.and (now (left .entry)) false (now (right .entry)) (now (out .entry)) []))
@@ -106,7 +106,7 @@ pub fn and(left: &[i64], right: &[i64], out: &mut [i64]) -> Reply
     related(Relation::And, left, right, out)
 }
 
-// The set of what `or` may give of two members: 0, 1000 or both.
+// A set that holds what `or` gives of two members: none, 0, 1000 or both.
 pub fn or(left: &[i64], right: &[i64], out: &mut [i64]) -> Reply
     ensures { λ r.
         ⌜ (r ≡ replyFor (returns2 point.or (now (left .entry)) false (now (right .entry)) (now (out .entry)) []))
@@ -115,7 +115,7 @@ pub fn or(left: &[i64], right: &[i64], out: &mut [i64]) -> Reply
     related(Relation::Or, left, right, out)
 }
 
-// The set of what `<=` may give of two members: 0, 1000 or both.
+// A set that holds what `<=` gives of two members: none, 0, 1000 or both.
 pub fn int_le(left: &[i64], right: &[i64], out: &mut [i64]) -> Reply
     ensures { λ r.
         ⌜ (r ≡ replyFor (returns2 point.le (now (left .entry)) false (now (right .entry)) (now (out .entry)) []))
@@ -124,7 +124,7 @@ pub fn int_le(left: &[i64], right: &[i64], out: &mut [i64]) -> Reply
     related(Relation::Le, left, right, out)
 }
 
-// The set of what `<` may give of two members: 0, 1000 or both.
+// A set that holds what `<` gives of two members: none, 0, 1000 or both.
 pub fn int_lt(left: &[i64], right: &[i64], out: &mut [i64]) -> Reply
     ensures { λ r.
         ⌜ (r ≡ replyFor (returns2 point.lt (now (left .entry)) false (now (right .entry)) (now (out .entry)) []))
@@ -133,7 +133,7 @@ pub fn int_lt(left: &[i64], right: &[i64], out: &mut [i64]) -> Reply
     related(Relation::Lt, left, right, out)
 }
 
-// The set of what `!=` may give of two members: 0, 1000 or both.
+// A set that holds what `!=` gives of two members: none, 0, 1000 or both.
 pub fn int_ne(left: &[i64], right: &[i64], out: &mut [i64]) -> Reply
     ensures { λ r.
         ⌜ (r ≡ replyFor (returns2 point.ne (now (left .entry)) false (now (right .entry)) (now (out .entry)) []))

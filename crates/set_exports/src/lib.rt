@@ -117,7 +117,7 @@ pub extern "C" fn juwenfo_set_mul(
     plain(number_intervals::mul(left, flag, right, work, out))
 }
 
-// A set that holds the quotients of all members; a zero in the divisor sets the flag.
+// A set that holds the quotients of all members; a zero in the divisor sets the flag, if the left set has a member.
 #[no_mangle]
 pub extern "C" fn juwenfo_set_div(
     left: &[i64],
@@ -134,7 +134,7 @@ pub extern "C" fn juwenfo_set_div(
     plain(number_intervals::div(left, flag, right, work, out))
 }
 
-// A set that holds the remainders of all members; a zero in the divisor sets the flag.
+// A set that holds the remainders of all members; a zero in the divisor sets the flag, if the left set has a member.
 #[no_mangle]
 pub extern "C" fn juwenfo_set_rem(
     left: &[i64],
@@ -151,7 +151,7 @@ pub extern "C" fn juwenfo_set_rem(
     plain(number_intervals::rem(left, flag, right, work, out))
 }
 
-// The set of what `not` may give of a member: 0, 1000 or both.
+// A set that holds what `not` gives of a member: none, 0, 1000 or both.
 #[no_mangle]
 pub extern "C" fn juwenfo_set_not(left: &[i64], out: &mut [i64]) -> Answer
     ensures { λ r.
@@ -161,7 +161,7 @@ pub extern "C" fn juwenfo_set_not(left: &[i64], out: &mut [i64]) -> Answer
     plain(number_intervals::not(left, out))
 }
 
-// The set of what `and` may give of two members: 0, 1000 or both.
+// A set that holds what `and` gives of two members: none, 0, 1000 or both.
 #[no_mangle]
 pub extern "C" fn juwenfo_set_and(left: &[i64], right: &[i64], out: &mut [i64]) -> Answer
     ensures { λ r.
@@ -171,7 +171,7 @@ pub extern "C" fn juwenfo_set_and(left: &[i64], right: &[i64], out: &mut [i64]) 
     plain(number_intervals::and(left, right, out))
 }
 
-// The set of what `or` may give of two members: 0, 1000 or both.
+// A set that holds what `or` gives of two members: none, 0, 1000 or both.
 #[no_mangle]
 pub extern "C" fn juwenfo_set_or(left: &[i64], right: &[i64], out: &mut [i64]) -> Answer
     ensures { λ r.
@@ -181,7 +181,7 @@ pub extern "C" fn juwenfo_set_or(left: &[i64], right: &[i64], out: &mut [i64]) -
     plain(number_intervals::or(left, right, out))
 }
 
-// The set of what `<=` may give of two members: 0, 1000 or both.
+// A set that holds what `<=` gives of two members: none, 0, 1000 or both.
 #[no_mangle]
 pub extern "C" fn juwenfo_set_le(left: &[i64], right: &[i64], out: &mut [i64]) -> Answer
     ensures { λ r.
@@ -191,7 +191,7 @@ pub extern "C" fn juwenfo_set_le(left: &[i64], right: &[i64], out: &mut [i64]) -
     plain(number_intervals::int_le(left, right, out))
 }
 
-// The set of what `<` may give of two members: 0, 1000 or both.
+// A set that holds what `<` gives of two members: none, 0, 1000 or both.
 #[no_mangle]
 pub extern "C" fn juwenfo_set_lt(left: &[i64], right: &[i64], out: &mut [i64]) -> Answer
     ensures { λ r.
@@ -201,7 +201,7 @@ pub extern "C" fn juwenfo_set_lt(left: &[i64], right: &[i64], out: &mut [i64]) -
     plain(number_intervals::int_lt(left, right, out))
 }
 
-// The set of what `!=` may give of two members: 0, 1000 or both.
+// A set that holds what `!=` gives of two members: none, 0, 1000 or both.
 #[no_mangle]
 pub extern "C" fn juwenfo_set_ne(left: &[i64], right: &[i64], out: &mut [i64]) -> Answer
     ensures { λ r.

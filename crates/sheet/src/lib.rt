@@ -49,7 +49,7 @@ pub fn line_start(text: &[u8], k: usize) -> usize
     at
 }
 
-// The part of the text for line n, without its LF; empty for line 0 or a line that has no LF.
+// The part of the text for line n, without its LF; empty for line 0 or a line that has no LF. Its bytes are promised, not the place where equal bytes stand.
 pub fn line(text: &[u8], n: usize) -> &[u8]
     ensures { λ r. ⌜ now r ≡ lineAt (now (text .entry)) n ⌝ }
 {
