@@ -1,4 +1,4 @@
-/* Juwenfo for C: the functions of libexports.a (`bindings/archive`; the Rattle side is crates/number_exports, set_exports and sheet_exports).
+/* Juwenfo for C: the functions of libexports.a (`rt staticlib exports`; the Rattle side is crates/exports).
  *
  * Numbers are counts of thousandths, from MIN (INT64_MIN) to MAX (INT64_MAX). A slice is a pointer and the length that follows it; a length counts
  * elements. A set of numbers is the ends of its intervals in a slice, start and end in turn, in order; it is normal if every start is at most its end

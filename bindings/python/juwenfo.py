@@ -2,7 +2,7 @@
 
 A shared object is made from the archive, once:
 
-    bindings/archive
+    rt staticlib exports
     cc -shared -o libjuwenfo.so -Wl,--whole-archive target/staticlib/libexports.a -Wl,--no-whole-archive
 
 It is looked for at the path in JUWENFO_LIBRARY, else beside this file.

@@ -5,7 +5,7 @@ fn main() {
     let here = PathBuf::from(std::env::var("CARGO_MANIFEST_DIR").unwrap());
     let folder = std::env::var("JUWENFO_ARCHIVE").map_or(here.join("../../target/staticlib"), PathBuf::from);
     let archive = folder.join("libexports.a");
-    assert!(archive.exists(), "{} is missing: make it with `bindings/archive`, or name its folder in JUWENFO_ARCHIVE", archive.display());
+    assert!(archive.exists(), "{} is missing: make it with `rt staticlib exports`, or name its folder in JUWENFO_ARCHIVE", archive.display());
     println!("cargo:rustc-link-search=native={}", folder.display());
     println!("cargo:rustc-link-lib=static=exports");
     println!("cargo:rerun-if-changed={}", archive.display());

@@ -27,14 +27,14 @@ pub fn not(a: BoolInterval) -> BoolInterval
 }
 
 // Both of two.
-pub fn both(a: bool, b: bool) -> bool
+fn both(a: bool, b: bool) -> bool
     ensures { λ r. ⌜ r ≡ (a && b) ⌝ }
 {
     if a { b } else { false }
 }
 
 // Either of two.
-pub fn either(a: bool, b: bool) -> bool
+fn either(a: bool, b: bool) -> bool
     ensures { λ r. ⌜ r ≡ (a || b) ⌝ }
 {
     if a { true } else { b }
@@ -72,14 +72,14 @@ pub fn is_filled(s: &[i64]) -> bool
 }
 
 // x == y
-pub fn same(x: i64, y: i64) -> bool
+fn same(x: i64, y: i64) -> bool
     ensures { λ r. ⌜ r ≡ eqZ x y ⌝ }
 {
     x == y
 }
 
 // The set is exactly {0}.
-pub fn is_zero(s: &[i64]) -> bool
+fn is_zero(s: &[i64]) -> bool
     ensures { λ r. ⌜ r ≡ zeroOnly (intervals (now (s .entry))) ⌝ }
 {
     if s.len() / 2 != 1 {
@@ -131,7 +131,7 @@ pub fn put(out: &mut [i64], b: BoolInterval) -> usize
 }
 
 // a < b
-pub fn less(a: i64, b: i64) -> bool
+fn less(a: i64, b: i64) -> bool
     ensures { λ r. ⌜ r ≡ ltZ a b ⌝ }
 {
     a < b
@@ -179,7 +179,7 @@ pub fn lt(left: &[i64], right: &[i64]) -> BoolInterval
 }
 
 // Both sets are one and the same number.
-pub fn same_number(left: &[i64], right: &[i64]) -> bool
+fn same_number(left: &[i64], right: &[i64]) -> bool
     ensures { λ r. ⌜ r ≡ sameNumber (constant (intervals (now (left .entry)))) (constant (intervals (now (right .entry)))) ⌝ }
 {
     if left.len() / 2 != 1 {

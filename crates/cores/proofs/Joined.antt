@@ -16,9 +16,9 @@ use Rattle.meaning.proofs.Over.{take-over, drop-over}
 use Rattle.slices.specs.Wrote.{Wrote}
 use Rattle.slices.proofs.Lent.{same-long}
 use Rattle.sorting.proofs.Steps.{drop-later}
-use Rattle.sets.specs.Sets.{Pairs, Rebuilt}
+use Rattle.sets.specs.Sets.{Pairs, Rebuilt, Argument}
 use Rattle.cores.specs.declared.Op.{Op}
-use Rattle.cores.specs.Cored.{Argument, Cored}
+use Rattle.cores.specs.Cored.{Cored}
 use Rattle.cores.specs.Operation.{ruleOf, factorOf, setOf}
 use Rattle.cores.proofs.Operations.{few, proper, factor-le, set-is}
 

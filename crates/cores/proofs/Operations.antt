@@ -27,7 +27,7 @@ use Rattle.cores.specs.declared.Op.{Op}
 use Rattle.cores.specs.declared.Op.the-variants.{Neg, Abs, Add, Sub, Mul, Div, Rem}
 use Rattle.cores.specs.declared.Relation.{Relation}
 use Rattle.cores.specs.declared.Relation.the-variants.{Le, Lt, Ne, And, Or}
-use Rattle.cores.specs.Cored.{Argument}
+use Rattle.sets.specs.Sets.{Argument}
 use Rattle.cores.specs.Operation.{ruleOf, factorOf, setOf, flagOf, op2Of, relationOf, Alone, neg-alone, abs-alone}
 
 pub few : (o : Op) (s e t f : ℤ) → Proper s e → Proper t f → length (ruleOf o s e t f) ≤ factorOf o
@@ -68,6 +68,10 @@ set-is Sub a b = refl
 set-is Mul a b = refl
 set-is Div a b = refl
 set-is Rem a b = refl
+
+-- the ends of an interval, read back
+pub proper-read : {a b : ℤ} → SFits w64 a → SFits w64 b → Proper a b → Proper (toZ w64 (ofZ w64 a)) (toZ w64 (ofZ w64 b))
+proper-read fa fb p = rw (toZ-ofZ fa, toZ-ofZ fb) p
 
 -- the rule of the operation's name is the operation's rule
 module _ {o p : Op} (e : o ≡ p) where

@@ -1,4 +1,4 @@
--- What a core asks for and leaves: the joined set at the front of the work slice, how many numbers it has, and its flag. Assumes nothing.
+-- What a core leaves: the joined set at the front of the work slice, how many numbers it has, and its flag. Assumes nothing.
 use lib.IntN.{ℤ}
 use lib.ListN.{length, take, drop}
 use mathlib.Core.Path.{_≡_}
@@ -6,13 +6,7 @@ use mathlib.Core.Bool.{Bool}
 use mathlib.Core.List.{List}
 use Prim.Native.Nat.{ℕ, _≤_}
 use Rattle.meaning.specs.NumberIntervals.{Set, flat}
-use Rattle.sets.specs.Sets.{SetEnds}
 use Rattle.cores.specs.declared.Core.{Core}
-
--- the ends of a normal set of at most 16 intervals
-pub record Argument (l : List ℤ) : Type 0 where
-  pub set : SetEnds l
-  pub few : length l ≤ 32
 
 -- `answer` and `flag` are what the operation gives, `need` the numbers of work that it needs; what lies past the need is as lent
 pub record Cored (answer : Set) (flag : Bool) (need : ℕ) (old new : List ℤ) (c : Core) : Type 0 where

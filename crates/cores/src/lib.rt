@@ -11,7 +11,8 @@ ghost use Rattle.meaning.specs.NumberIntervals.{eachPair, intervals, zeroFound}
 ghost use Rattle.meaning.specs.SetCalls.{need2};
 ghost use Rattle.meaning.proofs.Members.{AllProper};
 ghost use Rattle.slices.specs.Wrote.{Wrote};
-ghost use Rattle.cores.specs.Cored.{Argument, Cored};
+ghost use Rattle.sets.specs.Sets.{Argument};
+ghost use Rattle.cores.specs.Cored.{Cored};
 ghost use Rattle.cores.specs.Operation.{ruleOf, factorOf, setOf, flagOf};
 
 pub mod rule;
@@ -43,7 +44,7 @@ pub struct Core {
 }
 
 // The flag of a division: the left set's flag, or a zero found in the divisor with a nonempty left set.
-pub fn zero_flag(left: &[i64], flag: bool, right: &[i64]) -> bool
+fn zero_flag(left: &[i64], flag: bool, right: &[i64]) -> bool
     ensures { λ r. ⌜ r ≡ (flag || zeroFound (intervals (now (left .entry))) (intervals (now (right .entry)))) ⌝ }
 {
     if flag {
@@ -56,7 +57,7 @@ pub fn zero_flag(left: &[i64], flag: bool, right: &[i64]) -> bool
 }
 
 // The flag of an operation: only a division looks for a zero.
-pub fn flag_of(op: Op, left: &[i64], flag: bool, right: &[i64]) -> bool
+fn flag_of(op: Op, left: &[i64], flag: bool, right: &[i64]) -> bool
     ensures { λ r. ⌜ r ≡ flagOf op flag (intervals (now (left .entry))) (intervals (now (right .entry))) ⌝ }
 {
     match op {
@@ -71,25 +72,25 @@ pub fn flag_of(op: Op, left: &[i64], flag: bool, right: &[i64]) -> bool
 }
 
 // [a, b] with each interval of right, one after the other.
-pub fn row(op: Op, out: &mut [i64], a: i64, b: i64, right: &[i64]) -> usize
+fn row(op: Op, out: &mut [i64], a: i64, b: i64, right: &[i64]) -> usize
     requires { ⌜ (2 * factorOf op * (length (now right) / 2) ≤ length (now out)) × Proper a b × AllProper (intervals (now right)) ⌝ }
     ensures { λ r. ⌜ Wrote r (each (ruleOf op a b) (intervals (now (right .entry)))) (now (out .exit)) (now (out .entry)) ⌝ }
 {
     let m = right.len();
-    let mut i = 0;
+    let mut j = 0;
     let mut at = 0;
-    while m - i > 1 {
-        let c = right[i];
-        let d = right[i + 1];
+    while m - j > 1 {
+        let c = right[j];
+        let d = right[j + 1];
         let r = pair(op, &mut out[at..], a, b, c, d);
         at += r;
-        i += 2;
+        j += 2;
     }
     at
 }
 
 // Each interval of left with each of right.
-pub fn all(op: Op, work: &mut [i64], left: &[i64], right: &[i64]) -> usize
+fn all(op: Op, work: &mut [i64], left: &[i64], right: &[i64]) -> usize
     requires { ⌜ (2 * factorOf op * (length (now right) / 2) * (length (now left) / 2) ≤ length (now work)) × AllProper (intervals (now right)) × AllProper (intervals (now left)) ⌝ }
     ensures { λ r. ⌜ Wrote r (eachPair (ruleOf op) (intervals (now (left .entry))) (intervals (now (right .entry)))) (now (work .exit)) (now (work .entry)) ⌝ }
 {

@@ -16,7 +16,7 @@ ghost use Rattle.meaning.specs.Interval.{Proper};
 ghost use Rattle.meaning.specs.NumberIntervals.{intervals};
 ghost use Rattle.slices.specs.Wrote.{Wrote};
 ghost use Rattle.bools.specs.Reading.{boolsOf};
-ghost use Rattle.cores.specs.Cored.{Argument};
+ghost use Rattle.sets.specs.Sets.{Argument};
 ghost use Rattle.cores.specs.Operation.{ruleOf, factorOf, relationOf};
 
 // The results of [a, b] and [c, d], written from the front of out.

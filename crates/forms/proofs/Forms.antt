@@ -10,10 +10,11 @@ use borrow.Author.Tests.{eq-eqb, ne-eqb}
 use Rattle.meaning.specs.Number.{Op1, Op2}
 use Rattle.meaning.specs.Reading.{Got, got, bad, mapGot, closed, literal, register, Head, isReg, is1, is2, isNone, head, start, Algebra, arg, form}
 use Rattle.meaning.specs.Sheet.{beyond}
-use Rattle.forms.specs.Answer.{literalOf, sizes}
-use Rattle.forms.specs.declared.Literal.{Literal}
-use Rattle.forms.specs.declared.Literal.the-variants as literal
-use Rattle.forms.proofs.Literals.{literal-is, literal-bad}
+use Rattle.literals.specs.Answer.{literalOf}
+use Rattle.literals.specs.declared.Literal.{Literal}
+use Rattle.literals.specs.declared.Literal.the-variants as literal
+use Rattle.literals.proofs.Literals.{literal-is, literal-bad}
+use Rattle.forms.specs.Answer.{sizes}
 
 module _ {A : Type 0} (alg : Algebra A) where
   -- b is the text's first byte

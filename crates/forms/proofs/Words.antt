@@ -1,6 +1,6 @@
 -- A form's head by its first five bytes: words compared byte by byte, and as one packed number. Assumes nothing.
 use mathlib.Core.Path.{_≡_, refl, sym, ap, _∙_}
-use mathlib.Core.Bool.{Bool, true, false, cond, _&&_}
+use mathlib.Core.Bool.{Bool, true, false, cond, _&&_, and-false}
 use mathlib.Core.List.{List, [], _∷_}
 use Prim.Native.Nat.{ℕ, zero, suc, _<_}
 use native.Mathlib.Omega.{arith}
@@ -72,10 +72,6 @@ head-bytes s =
       begins-stands (40 ∷ 111 ∷ 114 ∷ 32 ∷ []) s 0 tt,
     )
 
-pub no-other : (x : Bool) → (x && false) ≡ false
-no-other true = refl
-no-other false = refl
-
 -- two or three bytes below 256 are told by their packed number
 module _ (a b : ℕ) (ha : a < 256) (hb : b < 256) where
   two-are : (x y w : ℕ) → x < 256 → y < 256 → w ≡ word2 x y → (eqb a x && (eqb b y && true)) ≡ eqb (word2 a b) w
@@ -109,7 +105,7 @@ module _ (a b : ℕ) (ha : a < 256) (hb : b < 256) where
   short-bytes : (d : ℕ) → byBytes 40 a b 32 d ≡ short (word2 a b)
   unfolding short
   short-bytes d =
-      simp no-other
+      simp and-false
       (rw (
         two-are 108 101 25964 (omega arith) (omega arith) refl,
         two-are 108 116 29804 (omega arith) (omega arith) refl,
@@ -121,7 +117,7 @@ module _ (a b : ℕ) (ha : a < 256) (hb : b < 256) where
     long-bytes : byBytes 40 a b c 32 ≡ long (word3 a b c)
     unfolding long
     long-bytes =
-        simp (n, no-other)
+        simp (n, and-false)
         (rw (
           three-are c hc 114 101 103 6776178 (omega arith) (omega arith) (omega arith) refl,
           three-are c hc 110 101 103 6776174 (omega arith) (omega arith) (omega arith) refl,
@@ -136,7 +132,7 @@ module _ (a b : ℕ) (ha : a < 256) (hb : b < 256) where
         ))
 
     none-bytes : (d : ℕ) → eqb d 32 ≡ false → byBytes 40 a b c d ≡ isNone
-    none-bytes d m = simp (n, m, no-other)
+    none-bytes d m = simp (n, m, and-false)
 
 -- which case holds, in the terms that the code has at hand
 module _ (s : List ℕ) {o : ℕ} (eo : o ≡ getD s 0 0) where

@@ -1,9 +1,7 @@
--- How the code tells a form's word and holds a literal's digits, beside the definitions of `meaning`. Assumes nothing.
+-- How the code tells a form's word, beside the definitions of `meaning`. Assumes nothing.
 use lib.Dec.{eqb}
-use lib.ListN.{length, getD}
-use mathlib.Core.Bool.{Bool, cond, _&&_}
-use mathlib.Core.List.{List, [], _∷_}
-use Prim.Native.Nat.{ℕ, _+_, _-_, _*_, min}
+use mathlib.Core.Bool.{cond}
+use Prim.Native.Nat.{ℕ, _+_, _*_}
 use Rattle.meaning.specs.Number.{neg, abs, not′, add, sub, mul, div, rem, le, lt, ne, and, or}
 use Rattle.meaning.specs.Reading.{Head, isReg, is1, is2, isNone}
 
@@ -37,23 +35,3 @@ long w =
     (cond (eqb w 7169394) (is2 rem)
     (cond (eqb w 6581857) (is2 and)
     isNone)))))))))
-
--- the head by its five bytes
-unfoldable pub packed : ℕ → ℕ → ℕ → ℕ → ℕ → Head
-packed o a b c d =
-    cond (eqb o 40)
-    (cond (eqb c 32) (short (word2 a b)) (cond (eqb d 32) (long (word3 a b c)) isNone))
-    isNone
-
--- 2^63 + 1: no literal has a greater magnitude than 2^63
-abbrev pub cap : ℕ
-cap = 9223372036854775809
-
--- the number that digits write behind a, held at the cap
-unfoldable pub capped : ℕ → List ℕ → ℕ
-capped a [] = a
-capped a (b ∷ s) = capped (min cap (a * 10 + (b - 48))) s
-
--- the closing bracket is at i, and nothing stands behind it
-unfoldable pub ends : List ℕ → ℕ → Bool
-ends s i = eqb (getD s i 0) 41 && eqb (i + 1) (length s)

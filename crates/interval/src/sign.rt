@@ -36,7 +36,7 @@ pub struct Ends {
 }
 
 // The magnitudes of [s,e] where MIN is not in it.
-pub fn magnitudes(s: i64, e: i64) -> Ends
+fn magnitudes(s: i64, e: i64) -> Ends
     requires { ⌜ point.MIN <ℤ s ⌝ ∗ ⌜ s ≤ℤ e ⌝ }
     ensures { λ r. ⌜ span (r .lo) (r .hi) ≡ absRest s e ⌝ }
 {

@@ -16,7 +16,7 @@ ghost use Rattle.meaning.specs.Interval.{Proper, whole, one, two, pieces, unsca
 ghost use Rattle.slices.specs.Wrote.{Wrote};
 
 // The wrapped ends u and v, split at the end of the range where they are out of order; [MIN,MAX] where all numbers are reached.
-pub fn put_split(out: &mut [i64], all: bool, u: i64, v: i64) -> usize
+fn put_split(out: &mut [i64], all: bool, u: i64, v: i64) -> usize
     requires { ⌜ 4 ≤ length (now out) ⌝ }
     ensures { λ r. ⌜ Wrote r (pieces unscaled (cond all whole (cond (leZ u v) (one u v) (two u v)))) (now (out .exit)) (now (out .entry)) ⌝ }
 {
@@ -32,7 +32,7 @@ pub fn put_split(out: &mut [i64], all: bool, u: i64, v: i64) -> usize
 }
 
 // Whether the lengths a and b are 2^64 - 1 or more together.
-pub fn reach_all(a: u64, b: u64) -> bool
+fn reach_all(a: u64, b: u64) -> bool
     ensures { λ r. ⌜ r ≡ leb (2 ^ 64 - 1) (a + b) ⌝ }
 {
     18446744073709551615 - a <= b

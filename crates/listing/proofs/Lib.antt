@@ -1,4 +1,3 @@
-mod TextLaws
 mod Marked
 mod Marks
 mod Longest

@@ -23,9 +23,9 @@ use Rattle.meaning.proofs.Fine.{read-line-fine}
 use Rattle.meaning.specs.Sheet.{Form, FineLine, FineAct}
 use Rattle.meaning.specs.Reading.{Got, got, bad, arg, tree}
 use Rattle.meaning.proofs.Work.{not-stop}
-use Rattle.forms.specs.Answer.{putOf, lineFrom}
-use Rattle.forms.specs.declared.LineForm.{LineForm}
-use Rattle.forms.specs.declared.LineForm.the-variants as line
+use Rattle.lines.specs.Answer.{putOf, lineFrom}
+use Rattle.lines.specs.declared.LineForm.{LineForm}
+use Rattle.lines.specs.declared.LineForm.the-variants as line
 use Rattle.sheet.specs.Answer.{IsSheet}
 use Rattle.sheet.specs.Feed.{feed}
 use Rattle.sheet.proofs.Feeds.{end-lt}

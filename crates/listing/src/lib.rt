@@ -1,14 +1,13 @@
-// The listing of a text (01, "Whole listing"): the bytes that the program writes for it. Each function writes its part at the front of the bytes that it is
-// lent, and returns how many they are.
+// The listing of a text (01, "Whole listing"): the bytes that the program writes for it. The lines themselves are written
+// by `wording`; here is which of them a text has.
 ghost use mathlib.Core.Path.{_≡_};
 ghost use mathlib.Core.List.{_++_};
 ghost use Prim.Native.Nat.{_+_, _-_, _*_, _<_, _≤_};
 ghost use lib.ListN.{length, getD, take, drop};
 ghost use lib.IntN.{pos};
-ghost use Rattle.meaning.specs.NumberIntervals.{intervals};
 ghost use Rattle.meaning.specs.Sheet.{registers};
 ghost use Rattle.meaning.specs.Check.{slotSize, countIn, setsNeed};
-ghost use Rattle.meaning.specs.Listing.{decimal, decimalZ, troubleLine, passLine, intervalTexts, registerLine, listing};
+ghost use Rattle.meaning.specs.Listing.{passLine, listing};
 ghost use Rattle.decimal.specs.Written.{Written};
 ghost use Rattle.sheet.specs.Answer.{IsSheet};
 ghost use Rattle.sheet_check.specs.Answer.{verdictOf};
@@ -17,106 +16,20 @@ ghost use Rattle.listing.specs.Marks.{markLine, marksAfter, Readable};
 ghost use Rattle.listing.specs.Longest.{longest};
 ghost use Rattle.listing.specs.Told.{Told};
 ghost use Rattle.listing.specs.Handed.{handed, handedOver};
-ghost use Rattle.listing.specs.Texts.{wordLine, troubleStart, intervalText, markedLine, markedLines, Counted};
-use forms::LineForm;
-use forms::read_line;
+ghost use Rattle.listing.specs.Texts.{markedLine, markedLines, Counted};
+use lines::LineForm;
+use lines::read_line;
 use sheet::line_end;
 use sheet_check::Answer;
 use sheet_check::check;
+use wording::pass_line;
+use wording::register_line;
+use wording::trouble_line;
 
 // Written with its length, or longer than the bytes that were lent.
 pub enum Listed {
     Written(usize),
     Short,
-}
-
-// A word, and a number behind it.
-fn word_nat(out: &mut [u8], word: &[u8], n: u64) -> usize
-    requires { ⌜ length (now word ++ decimal n) ≤ length (now out) ⌝ }
-    ensures { λ r. ⌜ Written r (now (word .entry) ++ decimal n) (now (out .exit)) (now (out .entry)) ⌝ }
-{
-    let at = decimal::copy_bytes(out, word);
-    at + decimal::write_nat(&mut out[at..], n)
-}
-
-// A word, and a number with its sign behind it.
-fn word_i64(out: &mut [u8], word: &[u8], x: i64) -> usize
-    requires { ⌜ length (now word ++ decimalZ x) ≤ length (now out) ⌝ }
-    ensures { λ r. ⌜ Written r (now (word .entry) ++ decimalZ x) (now (out .exit)) (now (out .entry)) ⌝ }
-{
-    let at = decimal::copy_bytes(out, word);
-    at + decimal::write_i64(&mut out[at..], x)
-}
-
-// A word, a number and LF.
-fn word_line(out: &mut [u8], word: &[u8], n: u64) -> usize
-    requires { ⌜ length (wordLine (now word) n) ≤ length (now out) ⌝ }
-    ensures { λ r. ⌜ Written r (wordLine (now (word .entry)) n) (now (out .exit)) (now (out .entry)) ⌝ }
-{
-    let at = word_nat(out, word, n);
-    at + decimal::copy_bytes(&mut out[at..], b"\n")
-}
-
-// "pass N" and LF.
-pub fn pass_line(out: &mut [u8], n: usize) -> usize
-    requires { ⌜ length (passLine n) ≤ length (now out) ⌝ }
-    ensures { λ r. ⌜ Written r (passLine n) (now (out .exit)) (now (out .entry)) ⌝ }
-{
-    word_line(out, b"pass ", n as u64)
-}
-
-// "refused K", or "stop K" for a finding.
-fn trouble_start(out: &mut [u8], k: u8) -> usize
-    requires { ⌜ length (troubleStart k) ≤ length (now out) ⌝ }
-    ensures { λ r. ⌜ Written r (troubleStart k) (now (out .exit)) (now (out .entry)) ⌝ }
-{
-    if k < 20 {
-        word_nat(out, b"refused ", k as u64)
-    } else {
-        word_nat(out, b"stop ", k as u64)
-    }
-}
-
-// The one line of a refusal or a finding: its number and its line.
-pub fn trouble_line(out: &mut [u8], k: u8, l: usize) -> usize
-    requires { ⌜ length (troubleLine k l) ≤ length (now out) ⌝ }
-    ensures { λ r. ⌜ Written r (troubleLine k l) (now (out .exit)) (now (out .entry)) ⌝ }
-{
-    let at = trouble_start(out, k);
-    at + word_line(&mut out[at..], b" ", l as u64)
-}
-
-// " LO..HI"
-fn interval_text(out: &mut [u8], lo: i64, hi: i64) -> usize
-    requires { ⌜ length (intervalText lo hi) ≤ length (now out) ⌝ }
-    ensures { λ r. ⌜ Written r (intervalText lo hi) (now (out .exit)) (now (out .entry)) ⌝ }
-{
-    let at = word_i64(out, b" ", lo);
-    at + word_i64(&mut out[at..], b"..", hi)
-}
-
-// " LO..HI" for each interval whose ends the slice holds.
-pub fn interval_texts(out: &mut [u8], ends: &[i64]) -> usize
-    requires { ⌜ length (intervalTexts (intervals (now ends))) ≤ length (now out) ⌝ }
-    ensures { λ r. ⌜ Written r (intervalTexts (intervals (now (ends .entry)))) (now (out .exit)) (now (out .entry)) ⌝ }
-{
-    if ends.len() < 2 {
-        return 0;
-    }
-    let lo = ends[0];
-    let hi = ends[1];
-    let at = interval_text(out, lo, hi);
-    at + interval_texts(&mut out[at..], &ends[2..])
-}
-
-// "rR LO..HI .." and LF, for register r and the ends of its set.
-pub fn register_line(out: &mut [u8], r: usize, ends: &[i64]) -> usize
-    requires { ⌜ length (registerLine r (intervals (now ends))) ≤ length (now out) ⌝ }
-    ensures { λ n. ⌜ Written n (registerLine r (intervals (now (ends .entry)))) (now (out .exit)) (now (out .entry)) ⌝ }
-{
-    let at = word_nat(out, b"r", r as u64);
-    let to = at + interval_texts(&mut out[at..], ends);
-    to + decimal::copy_bytes(&mut out[to..], b"\n")
 }
 
 // How many intervals the first number of a register's slot says.
@@ -152,7 +65,7 @@ fn marked_line(out: &mut [u8], marks: &[bool], sets: &[i64], r: usize) -> usize
 }
 
 // The lines of the registers from r on that are marked.
-pub fn marked_lines(out: &mut [u8], marks: &[bool], sets: &[i64], r: usize) -> usize
+fn marked_lines(out: &mut [u8], marks: &[bool], sets: &[i64], r: usize) -> usize
     requires { ⌜ (length (now marks) ≡ registers) × (length (now sets) ≡ setsNeed) × (r ≤ registers) × Counted (now sets) ⌝ }
     requires { ⌜ length (markedLines (now marks) (now sets) r (registers - r)) ≤ length (now out) ⌝ }
     ensures { λ n. ⌜ Written n (markedLines (now (marks .entry)) (now (sets .entry)) r (registers - r)) (now (out .exit)) (now (out .entry)) ⌝ }

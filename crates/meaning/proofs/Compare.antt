@@ -221,7 +221,3 @@ zero-found a b mx mz = and-yes (filled-in a mx) (in-contains mz)
 pub zero-found-only : (a b : Set) → Normal a → zeroFound a b ≡ true → ((x : ℤ) × (x ∈ a)) × (pos 0 ∈ b)
 zero-found-only [] b n e = never (sym e)
 zero-found-only (i ∷ s) b n e = ((i .lo, here (between (≤ℤ-refl (i .lo)) (n .0 .ordered))), contains-in (pos 0) b e)
-
--- none found: no member of the divisor is 0
-pub none-found : {x y : ℤ} (a b : Set) → x ∈ a → y ∈ b → zeroFound a b ≡ false → y ≡ pos 0 → ⊥
-none-found a b mx my e h = clash (zero-found a b mx (subst (λ (z : ℤ). z ∈ b) h my)) e

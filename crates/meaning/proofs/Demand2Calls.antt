@@ -5,19 +5,19 @@ use lib.ListN.{length, take}
 use mathlib.Core.Path.{_≡_, refl, sym, ap, subst, _∙_}
 use mathlib.Core.Bool.{Bool, true, false, cond}
 use mathlib.Core.List.{List, []}
-use Prim.Native.Nat.{ℕ}
+use Prim.Native.Nat.{ℕ, _≤_}
 use native.Mathlib.Omega.{arith}
-use borrow.Author.Tests.{eq-eqb, eqb-true}
+use borrow.Author.Tests.{eq-eqb, eqb-true, ltb-false}
 use Rattle.meaning.specs.Lists.{All, over}
 use Rattle.meaning.specs.Refusals.{notNormal, tooMany, tooShort, noRoom}
 use Rattle.meaning.specs.Number.{InRange, Op1, neg, abs, Op2, add, sub, point1}
 use Rattle.meaning.specs.NumberIntervals.{Set, _∈_, Normal, union, intersect, set1, set2, flag1, flag2, flat, intervals, normal}
 use Rattle.meaning.specs.SetCalls.{Returned, written, refused, refusal, refusal2, factor1, factor2, need1, need2, callReturns, callOut}
 use Rattle.meaning.specs.Demand2.{Only1, Only2}
-use Rattle.meaning.specs.Demand2Calls.{shown, CallOnly1, CallOnly2, CallJust, CallsRight}
+use Rattle.meaning.specs.Demand2Calls.{shown, Ends, Written, CallOnly1, CallOnly2, CallJust, CallsRight}
 use Rattle.meaning.proofs.Integers.{clash}
-use Rattle.meaning.proofs.Over.{take-over}
-use Rattle.meaning.proofs.Flat.{intervals-flat, ends-normal}
+use Rattle.meaning.proofs.Over.{length-over, take-over}
+use Rattle.meaning.proofs.Flat.{intervals-flat, flat-intervals, ends-normal}
 use Rattle.meaning.proofs.Demand2.{demand2}
 
 -- ---- an argument that is not refused is normal
@@ -39,14 +39,15 @@ unrefused2 left right e = go (eqb (refusal left) 0) refl e
     go true p e = (eqb-true (refusal left) 0 p, e)
     go false p e = clash (eq-eqb (refusal left) 0 e) p
 
-argument-normal : (s : List ℤ) → All InRange s → refusal s ≡ 0 → Normal (intervals s)
-argument-normal s h e = ends-normal s (unrefused s e) h
+argument-ends : (s : List ℤ) → All InRange s → refusal s ≡ 0 → Ends s
+argument-ends s h e = record { normal = ends-normal s (unrefused s e) h; whole = flat-intervals s (unrefused s e) }
 
 -- ---- what a call that refuses nothing returns and writes
 
 module _ (k need : ℕ) (answer : Set) (flag : Bool) (out work : List ℤ) where
   pub record Wrote : Type 0 where
     pub unrefused-args : k ≡ 0
+    pub room : length (flat answer) ≤ length out
     pub returned : callReturns k need answer flag out work ≡ written (length (flat answer)) flag
     pub left : callOut k need answer flag out work ≡ over (flat answer) out
 
@@ -61,15 +62,21 @@ module _ (k need : ℕ) (answer : Set) (flag : Bool) (out work : List ℤ) where
           → cond a (cond b (refused tooShort) (cond c (refused noRoom) (written n flag))) (refused k) .number ≡ 0 → Wrote
       go true true c p q r e = absurd (omega arith)
       go true false true p q r e = absurd (omega arith)
-      go true false false p q r e = record { unrefused-args = eqb-true k 0 p; returned = rw (p, q, r) refl; left = rw (p, q, r) refl }
+      go true false false p q r e = record { unrefused-args = eqb-true k 0 p; room = ltb-false (length out) n r; returned = rw (p, q, r) refl; left = rw (p, q, r) refl }
       go false b c p q r e = clash (eq-eqb k 0 e) p
 
-  -- so its numbers show the answer
+  -- so its numbers are the answer's ends, and show it
+  front : Wrote → take (callReturns k need answer flag out work .count) (callOut k need answer flag out work) ≡ flat answer
+  front w = (λ i. take (w .returned i .count) (w .left i)) ∙ take-over (flat answer) out
+
   shows : Wrote → shown (callReturns k need answer flag out work) (callOut k need answer flag out work) ≡ answer
-  shows w =
-      (λ i. intervals (take (w .returned i .count) (w .left i)))
-      ∙ ap intervals (take-over (flat answer) out)
-      ∙ intervals-flat answer
+  shows w = ap intervals (front w) ∙ intervals-flat answer
+
+  wrote-ends : Wrote → Normal answer → Written (callReturns k need answer flag out work) (callOut k need answer flag out work)
+  wrote-ends w p = record {
+    fits = rw (w .returned, w .left, length-over (flat answer) out (w .room)) (w .room);
+    ends = record { normal = subst Normal (sym (shows w)) p; whole = ap flat (shows w) ∙ sym (front w) };
+  }
 
   flagged : Wrote → callReturns k need answer flag out work .flag ≡ flag
   flagged w = ap (λ (r : Returned). r .flag) (w .returned)
@@ -89,7 +96,7 @@ module _ (o : Op1) (left : List ℤ) (flag : Bool) (out work : List ℤ) where
 only1 : (o : Op1) → Only1 o → CallOnly1 o
 only1 o only left flag out work h e z m =
     let w = wrote1 o left flag out work e in
-    only (intervals left) z (argument-normal left h (w .unrefused-args)) (subst (λ (s : Set). z ∈ s) (shows1 o left flag out work w) m)
+    only (intervals left) z (argument-ends left h (w .unrefused-args) .normal) (subst (λ (s : Set). z ∈ s) (shows1 o left flag out work w) m)
 
 -- ---- two operands: `answer` is what the definitions give
 
@@ -98,11 +105,11 @@ module _ (need : ℕ) (answer : Set) (flag : Bool) (left right out work : List �
   wrote2 : Wrote (refusal2 left right) need answer flag out work
   wrote2 = call-wrote (refusal2 left right) need answer flag out work e
 
-  normal-left : Normal (intervals left)
-  normal-left = argument-normal left h (unrefused2 left right (wrote2 .unrefused-args) .0)
+  ends-left : Ends left
+  ends-left = argument-ends left h (unrefused2 left right (wrote2 .unrefused-args) .0)
 
-  normal-right : Normal (intervals right)
-  normal-right = argument-normal right g (unrefused2 left right (wrote2 .unrefused-args) .1)
+  ends-right : Ends right
+  ends-right = argument-ends right g (unrefused2 left right (wrote2 .unrefused-args) .1)
 
   shows2 : shown (callReturns (refusal2 left right) need answer flag out work) (callOut (refusal2 left right) need answer flag out work) ≡ answer
   shows2 = shows (refusal2 left right) need answer flag out work wrote2
@@ -112,7 +119,7 @@ only2 o only left flag right out work h g e z m =
     let need = need2 (factor2 o) left right in
     let answer = set2 o (intervals left) (intervals right) in
     let f = flag2 o flag (intervals left) (intervals right) in
-    only (intervals left) (intervals right) z (normal-left need answer f left right out work h g e) (normal-right need answer f left right out work h g e)
+    only (intervals left) (intervals right) z (ends-left need answer f left right out work h g e .normal) (ends-right need answer f left right out work h g e .normal)
     (subst (λ (s : Set). z ∈ s) (shows2 need answer f left right out work h g e) m)
 
 -- a call without work whose answer has just the members that `is` says
@@ -123,13 +130,15 @@ module _ (answer : Set) (left right out : List ℤ) (h : All InRange left) (g : 
       → ((z : ℤ) → Normal (intervals left) → Normal (intervals right) → z ∈ answer → is z)
       → CallJust is left right (callReturns (refusal2 left right) 0 answer false out []) (callOut (refusal2 left right) 0 answer false out [])
   just p holds only =
-      let n = normal-left 0 answer false left right out [] h g e in
-      let k = normal-right 0 answer false left right out [] h g e in
+      let l = ends-left 0 answer false left right out [] h g e in
+      let r = ends-right 0 answer false left right out [] h g e in
+      let n = l .normal in
+      let k = r .normal in
       let s = shows2 0 answer false left right out [] h g e in
       record {
-        left-normal = n;
-        right-normal = k;
-        normal = subst Normal (sym s) (p n k);
+        left-ends = l;
+        right-ends = r;
+        written = wrote-ends (refusal2 left right) 0 answer false out [] (wrote2 0 answer false left right out [] h g e) (p n k);
         holds = λ z m. subst (λ (x : Set). z ∈ x) (sym s) (holds z n k m);
         only = λ z m. only z n k (subst (λ (x : Set). z ∈ x) s m);
         flagged = flagged (refusal2 left right) 0 answer false out [] (wrote2 0 answer false left right out [] h g e);
@@ -139,11 +148,12 @@ pub demand2-calls : CallsRight
 demand2-calls = record {
   call1 = λ o left flag out work h e.
       let w = wrote1 o left flag out work e in
-      let n = argument-normal left h (w .unrefused-args) in
+      let l = argument-ends left h (w .unrefused-args) in
+      let n = l .normal in
       let s = sym (shows1 o left flag out work w) in
       record {
-        left-normal = n;
-        normal = subst Normal s (demand2 .normal1 o (intervals left) n);
+        left-ends = l;
+        written = wrote-ends (refusal left) (need1 (factor1 o) left) (set1 o (intervals left)) (flag1 o flag) out work w (demand2 .normal1 o (intervals left) n);
         holds = λ x m. subst (λ (a : Set). point1 o x ∈ a) s (demand2 .holds1 o (intervals left) (point1 o x) n (record { member = x; member-in = m; gives = refl }));
         flagged = flagged (refusal left) (need1 (factor1 o) left) (set1 o (intervals left)) (flag1 o flag) out work w;
       };
@@ -151,13 +161,15 @@ demand2-calls = record {
       let need = need2 (factor2 o) left right in
       let answer = set2 o (intervals left) (intervals right) in
       let f = flag2 o flag (intervals left) (intervals right) in
-      let n = normal-left need answer f left right out work h g e in
-      let k = normal-right need answer f left right out work h g e in
+      let l = ends-left need answer f left right out work h g e in
+      let r = ends-right need answer f left right out work h g e in
+      let n = l .normal in
+      let k = r .normal in
       let s = sym (shows2 need answer f left right out work h g e) in
       record {
-        left-normal = n;
-        right-normal = k;
-        normal = subst Normal s (demand2 .normal2 o (intervals left) (intervals right) n k);
+        left-ends = l;
+        right-ends = r;
+        written = wrote-ends (refusal2 left right) need answer f out work (wrote2 need answer f left right out work h g e) (demand2 .normal2 o (intervals left) (intervals right) n k);
         holds = λ x y z mx my r. subst (λ (a : Set). z ∈ a) s (demand2 .holds2 o (intervals left) (intervals right) z n k (record { left = x; right = y; left-in = mx; right-in = my; gives = r }));
         flagged = flagged (refusal2 left right) need answer f out work (wrote2 need answer f left right out work h g e);
       };

@@ -175,21 +175,6 @@ module _ {A B : Type 0} (R : A → B → Type 0) (α : Algebra A) (β : Algebra 
       rel-arg-with (formWith α (λ t. arg α d t)) (formWith β (λ t. arg β d t))
       (λ t. rel-head (λ u. arg α d u) (λ u. arg β d u) (λ u. rel-arg d u) t (start t) (head t)) s
 
-  pub rel-form : (d : ℕ) (s : List ℕ) → Related R (form α d s) (form β d s)
-  unfolding form
-  rel-form d s = rel-head (λ u. arg α d u) (λ u. arg β d u) (λ u. rel-arg d u) s (start s) (head s)
-
--- E and its closing bracket
-module _ {A B C D : Type 0} (f : A → B) (α : Algebra A) (β : Algebra B)
-    (on-lit : (z : ℤ) → f (α .onLit z) ≡ β .onLit z) (on-reg : (r : ℕ) → f (α .onReg r) ≡ β .onReg r)
-    (on-one : (o : Op1) (a : A) → f (α .on1 o a) ≡ β .on1 o (f a)) (on-two : (o : Op2) (a b : A) → f (α .on2 o a b) ≡ β .on2 o (f a) (f b))
-    (h : C → D) (make : A → C) (make′ : B → D) (same : (a : A) → h (make a) ≡ make′ (f a)) where
-  pub fuse-value : (d : ℕ) (s : List ℕ) (i : ℕ) → mapGot h (value α make d s i) ≡ value β make′ d s i
-  unfolding value
-  fuse-value d s i =
-      map-then f h (arg α d (drop i s)) (λ e n. closed s (i + n) (make e)) (λ e n. closed s (i + n) (make′ e)) (λ a n. map-closed h s (i + n) (make a) (make′ (f a)) (same a))
-      ∙ ap (λ (g : Got B). andThen g (λ e n. closed s (i + n) (make′ e))) (fuse-arg f α β on-lit on-reg on-one on-two d (drop i s))
-
 -- ---- the folds of a form, as algebras: whether a literal is beyond MIN..MAX, its value, its set
 
 abbrev pub farAlgebra : Algebra Bool
@@ -206,14 +191,6 @@ valueAlgebra s = record {
   on1 = λ o a. bind a (λ x. ok (point1 o x));
   on2 = λ o a b. bind a (λ x. bind b (λ y. orStop zeroDivisor (point2 o x y)));
 }
-
-pub value-arg : (state : List ℤ) (d : ℕ) (s : List ℕ) → mapGot (valueOf state) (arg tree d s) ≡ arg (valueAlgebra state) d s
-unfolding valueOf
-value-arg state = fuse-arg (valueOf state) tree (valueAlgebra state) (λ z. refl) (λ r. refl) (λ o a. refl) (λ o a b. refl)
-
-pub value-form : (state : List ℤ) (d : ℕ) (s : List ℕ) → mapGot (valueOf state) (form tree d s) ≡ form (valueAlgebra state) d s
-unfolding valueOf
-value-form state = fuse-form (valueOf state) tree (valueAlgebra state) (λ z. refl) (λ r. refl) (λ o a. refl) (λ o a b. refl)
 
 abbrev pub setAlgebra : ℕ → List Set → Algebra (Res Set)
 setAlgebra limit S = record {

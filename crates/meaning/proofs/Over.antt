@@ -58,10 +58,6 @@ module _ {ℓ} {A : Type ℓ} where
       ∙ sym (append-assoc xs (a ∷ []) (drop (suc (length xs)) old))
       ∙ ap (λ (k : ℕ). (xs ++ a ∷ []) ++ drop k old) k
 
-  -- the longer of two that are written over each other wins
-  pub over-over : (xs ys old : List A) → length ys ≤ length xs → over xs (over ys old) ≡ over xs old
-  over-over xs ys old h = over-same xs (over ys old) old (drop-over ys old (length xs) h)
-
   -- the same with the place known by an equation
   pub over-store-at : (xs old : List A) (a : A) (i : ℕ) → length xs ≡ i → i < length old → set (over xs old) i a ≡ over (xs ++ a ∷ []) old
   over-store-at xs old a i e h = rw (← e) (over-store xs old a (omega arith))
@@ -83,12 +79,6 @@ module _ {ℓ} {A : Type ℓ} where
   pub over-take : (old s : List A) (i : ℕ) (d : A) → i < length old → i < length s → set (over (take i s) old) i (getD s i d) ≡ over (take (i + 1) s) old
   over-take old s i d h k =
       over-store-at (take i s) old (getD s i d) i (length-take-le i s (omega arith)) h ∙ ap (λ (l : List A). over l old) (sym (rw add-one (take-suc s i d k)))
-
-  pub over-copy : (old s : List A) (a i : ℕ) (d : A) → i < length old → a + i < length s → set (over (slice a (a + i) s) old) i (getD s (a + i) d) ≡ over (slice a (a + (i + 1)) s) old
-  over-copy old s a i d h k =
-      let e : a + (i + 1) ≡ a + i + 1 = omega arith in
-      over-store-at (slice a (a + i) s) old (getD s (a + i) d) i (omega (arith, length-slice a (a + i) s (omega arith))) h
-      ∙ ap (λ (l : List A). over l old) (slice-snoc s a (a + i) d (omega arith) k ∙ rw e)
 
 -- What a callee did to the tail that it was lent, said of the whole. `f(&mut l[at..])` leaves take at l before what f leaves of drop at l
 module _ {ℓ} {A : Type ℓ} (l xs : List A) (at : ℕ) (h : at + length xs ≤ length l) where

@@ -114,9 +114,6 @@ pub record Plain (s e t f : ℤ) : Type 0 where
   pub apart : s ≡ MIN → f ≡ negsuc 0 → ⊥
 
 module _ {s e t f x y : ℤ} (p : Plain s e t f) (h : Between s x e) (k : Between t y f) where
-  pub plain-nonzero : y ≡ pos 0 → ⊥
-  plain-nonzero z = ⊎-elim (λ q. absurd (omega (zarith, q, k .above, z))) (λ q. absurd (omega (zarith, q, k .below, z))) (p .sign)
-
   not-turned : x ≡ MIN → y ≡ negsuc 0 → ⊥
   not-turned i j =
       ⊎-elim (λ q. absurd (omega (zarith, q, k .above, j)))

@@ -1,15 +1,16 @@
 -- Demand 2 for the calls: the set that a call writes where it refuses nothing. The numbers of a slice are i64, so they are from MIN to MAX.
 -- The theorem is `demand2-calls` of proofs/Demand2Calls.antt. Assumes nothing.
 use lib.IntN.{ℤ}
-use lib.ListN.{take}
+use lib.ListN.{length, take}
 use mathlib.Core.Path.{_≡_}
 use mathlib.Core.Bool.{Bool, false}
 use mathlib.Core.Logic.{_⊎_}
 use mathlib.Core.List.{List}
 use mathlib.Core.Option.{Option, some}
+use Prim.Native.Nat.{_≤_}
 use Rattle.meaning.specs.Lists.{All}
 use Rattle.meaning.specs.Number.{InRange, Op1, neg, abs, Op2, add, sub, point1, point2}
-use Rattle.meaning.specs.NumberIntervals.{Set, _∈_, Normal, flag1, flag2, intervals}
+use Rattle.meaning.specs.NumberIntervals.{Set, _∈_, Normal, flag1, flag2, flat, intervals}
 use Rattle.meaning.specs.SetCalls.{Returned, returns1, out1, returns2, out2, returnsUnion, outUnion, returnsIntersect, outIntersect}
 use Rattle.meaning.specs.Demand2.{Result1, Result2}
 
@@ -17,18 +18,28 @@ use Rattle.meaning.specs.Demand2.{Result1, Result2}
 abbrev pub shown : Returned → List ℤ → Set
 shown r out = intervals (take (r .count) out)
 
+-- the numbers of l are the ends of a normal set, each of them
+pub record Ends (l : List ℤ) : Type 0 where
+  pub normal : Normal (intervals l)
+  pub whole : flat (intervals l) ≡ l
+
+-- what is written is the ends of a normal set, and stands in `out`
+pub record Written (r : Returned) (out : List ℤ) : Type 0 where
+  pub fits : r .count ≤ length out
+  pub ends : Ends (take (r .count) out)
+
 -- one operand: the argument and the answer are normal, the answer holds every point result, and the flag is the one of the definitions
 pub record Call1 (o : Op1) (left : List ℤ) (flag : Bool) (r : Returned) (out : List ℤ) : Type 0 where
-  pub left-normal : Normal (intervals left)
-  pub normal : Normal (shown r out)
+  pub left-ends : Ends left
+  pub written : Written r out
   pub holds : (x : ℤ) → x ∈ intervals left → point1 o x ∈ shown r out
   pub flagged : r .flag ≡ flag1 o flag
 
 -- two operands
 pub record Call2 (o : Op2) (left : List ℤ) (flag : Bool) (right : List ℤ) (r : Returned) (out : List ℤ) : Type 0 where
-  pub left-normal : Normal (intervals left)
-  pub right-normal : Normal (intervals right)
-  pub normal : Normal (shown r out)
+  pub left-ends : Ends left
+  pub right-ends : Ends right
+  pub written : Written r out
   pub holds : (x y z : ℤ) → x ∈ intervals left → y ∈ intervals right → point2 o x y ≡ some z → z ∈ shown r out
   pub flagged : r .flag ≡ flag2 o flag (intervals left) (intervals right)
 
@@ -45,9 +56,9 @@ CallOnly2 o =
 
 -- union and intersect: the answer is normal, has just the members that `is` says, and no flag
 pub record CallJust (is : ℤ → Type 0) (left right : List ℤ) (r : Returned) (out : List ℤ) : Type 0 where
-  pub left-normal : Normal (intervals left)
-  pub right-normal : Normal (intervals right)
-  pub normal : Normal (shown r out)
+  pub left-ends : Ends left
+  pub right-ends : Ends right
+  pub written : Written r out
   pub holds : (z : ℤ) → is z → z ∈ shown r out
   pub only : (z : ℤ) → z ∈ shown r out → is z
   pub flagged : r .flag ≡ false

@@ -26,7 +26,7 @@ pub enum Maybe {
 }
 
 // The two's complement bits of x.
-pub fn bits(x: i64) -> u64
+fn bits(x: i64) -> u64
     ensures { λ r. ⌜ r ≡ low x ⌝ }
 {
     if x < 0 {
@@ -182,7 +182,7 @@ pub fn as_bool(x: i64) -> bool
 }
 
 // True is ONE, false 0.
-pub fn of_bool(b: bool) -> i64
+fn of_bool(b: bool) -> i64
     ensures { λ r. ⌜ r ≡ point.ofBool b ⌝ }
 {
     if b { ONE } else { 0 }

@@ -1,27 +1,29 @@
 // Sets of numbers that travel as ends in slices, the flag beside them. An argument is a normal set of at most 16 intervals: sorted, no overlap, at least one
 // number missing between neighbours. Special are the empty slice, which is the empty set, an odd length, which is no set, and a divisor that holds 0, which
-// sets the flag. Each call returns how many numbers it wrote and the flag, or a refusal; what follows the answer, or the need of work, is as lent.
+// sets the flag if the left set has a member. Each call returns how many numbers it wrote and the flag, or a refusal; what follows the answer, or the need of work, is as lent.
 use cores::Op;
 use cores::Relation;
-use set_calls::Reply;
-use set_calls::call::Walk;
-use set_calls::call::joined;
-use set_calls::call::negated;
-use set_calls::call::related;
-use set_calls::call::walked;
+use replies::Reply;
+use set_calls::Walk;
+use set_calls::joined;
+use set_calls::negated;
+use set_calls::related;
+use set_calls::walked;
 ghost use mathlib.Core.Path.{_≡_};
 ghost use mathlib.Core.Bool.{false};
 ghost use mathlib.Core.List.{[]};
 ghost use Rattle.meaning.specs.Number as point;
 ghost use Rattle.meaning.specs.SetCalls.{returns1, out1, work1, returns2, out2, work2, returnsUnion, outUnion, returnsIntersect, outIntersect};
-ghost use Rattle.set_calls.specs.Returning.{replyFor};
+ghost use Rattle.replies.specs.Returning.{replyFor};
+ghost use Rattle.number_intervals.specs.Right.{Held1, Held2, Just1, Just2, JustEither, JustBoth};
 
 // The set of the negatives of all members.
 pub fn neg(left: &[i64], flag: bool, work: &mut [i64], out: &mut [i64]) -> Reply
     ensures { λ r.
         ⌜ (r ≡ replyFor (returns1 point.neg (now (left .entry)) flag (now (out .entry)) (now (work .entry))))
         × (now (out .exit) ≡ out1 point.neg (now (left .entry)) flag (now (out .entry)) (now (work .entry)))
-        × (now (work .exit) ≡ work1 point.neg (now (left .entry)) flag (now (out .entry)) (now (work .entry))) ⌝ }
+        × (now (work .exit) ≡ work1 point.neg (now (left .entry)) flag (now (out .entry)) (now (work .entry))) ⌝
+        ∗ ⌜ Just1 point.neg (now (left .entry)) flag r (now (out .exit)) ⌝ }
 {
     let zero = [0i64; 2];
     joined(Op::Neg, left, flag, &zero, work, out)
@@ -32,7 +34,8 @@ pub fn abs(left: &[i64], flag: bool, work: &mut [i64], out: &mut [i64]) -> Reply
     ensures { λ r.
         ⌜ (r ≡ replyFor (returns1 point.abs (now (left .entry)) flag (now (out .entry)) (now (work .entry))))
         × (now (out .exit) ≡ out1 point.abs (now (left .entry)) flag (now (out .entry)) (now (work .entry)))
-        × (now (work .exit) ≡ work1 point.abs (now (left .entry)) flag (now (out .entry)) (now (work .entry))) ⌝ }
+        × (now (work .exit) ≡ work1 point.abs (now (left .entry)) flag (now (out .entry)) (now (work .entry))) ⌝
+        ∗ ⌜ Just1 point.abs (now (left .entry)) flag r (now (out .exit)) ⌝ }
 {
     let zero = [0i64; 2];
     joined(Op::Abs, left, flag, &zero, work, out)
@@ -43,7 +46,8 @@ pub fn add(left: &[i64], flag: bool, right: &[i64], work: &mut [i64], out: &mut 
     ensures { λ r.
         ⌜ (r ≡ replyFor (returns2 point.add (now (left .entry)) flag (now (right .entry)) (now (out .entry)) (now (work .entry))))
         × (now (out .exit) ≡ out2 point.add (now (left .entry)) flag (now (right .entry)) (now (out .entry)) (now (work .entry)))
-        × (now (work .exit) ≡ work2 point.add (now (left .entry)) flag (now (right .entry)) (now (out .entry)) (now (work .entry))) ⌝ }
+        × (now (work .exit) ≡ work2 point.add (now (left .entry)) flag (now (right .entry)) (now (out .entry)) (now (work .entry))) ⌝
+        ∗ ⌜ Just2 point.add (now (left .entry)) flag (now (right .entry)) r (now (out .exit)) ⌝ }
 {
     joined(Op::Add, left, flag, right, work, out)
 }
@@ -53,7 +57,8 @@ pub fn sub(left: &[i64], flag: bool, right: &[i64], work: &mut [i64], out: &mut 
     ensures { λ r.
         ⌜ (r ≡ replyFor (returns2 point.sub (now (left .entry)) flag (now (right .entry)) (now (out .entry)) (now (work .entry))))
         × (now (out .exit) ≡ out2 point.sub (now (left .entry)) flag (now (right .entry)) (now (out .entry)) (now (work .entry)))
-        × (now (work .exit) ≡ work2 point.sub (now (left .entry)) flag (now (right .entry)) (now (out .entry)) (now (work .entry))) ⌝ }
+        × (now (work .exit) ≡ work2 point.sub (now (left .entry)) flag (now (right .entry)) (now (out .entry)) (now (work .entry))) ⌝
+        ∗ ⌜ Just2 point.sub (now (left .entry)) flag (now (right .entry)) r (now (out .exit)) ⌝ }
 {
     joined(Op::Sub, left, flag, right, work, out)
 }
@@ -63,7 +68,8 @@ pub fn mul(left: &[i64], flag: bool, right: &[i64], work: &mut [i64], out: &mut 
     ensures { λ r.
         ⌜ (r ≡ replyFor (returns2 point.mul (now (left .entry)) flag (now (right .entry)) (now (out .entry)) (now (work .entry))))
         × (now (out .exit) ≡ out2 point.mul (now (left .entry)) flag (now (right .entry)) (now (out .entry)) (now (work .entry)))
-        × (now (work .exit) ≡ work2 point.mul (now (left .entry)) flag (now (right .entry)) (now (out .entry)) (now (work .entry))) ⌝ }
+        × (now (work .exit) ≡ work2 point.mul (now (left .entry)) flag (now (right .entry)) (now (out .entry)) (now (work .entry))) ⌝
+        ∗ ⌜ Held2 point.mul (now (left .entry)) flag (now (right .entry)) r (now (out .exit)) ⌝ }
 {
     joined(Op::Mul, left, flag, right, work, out)
 }
@@ -73,7 +79,8 @@ pub fn div(left: &[i64], flag: bool, right: &[i64], work: &mut [i64], out: &mut 
     ensures { λ r.
         ⌜ (r ≡ replyFor (returns2 point.div (now (left .entry)) flag (now (right .entry)) (now (out .entry)) (now (work .entry))))
         × (now (out .exit) ≡ out2 point.div (now (left .entry)) flag (now (right .entry)) (now (out .entry)) (now (work .entry)))
-        × (now (work .exit) ≡ work2 point.div (now (left .entry)) flag (now (right .entry)) (now (out .entry)) (now (work .entry))) ⌝ }
+        × (now (work .exit) ≡ work2 point.div (now (left .entry)) flag (now (right .entry)) (now (out .entry)) (now (work .entry))) ⌝
+        ∗ ⌜ Held2 point.div (now (left .entry)) flag (now (right .entry)) r (now (out .exit)) ⌝ }
 {
     joined(Op::Div, left, flag, right, work, out)
 }
@@ -83,7 +90,8 @@ pub fn rem(left: &[i64], flag: bool, right: &[i64], work: &mut [i64], out: &mut 
     ensures { λ r.
         ⌜ (r ≡ replyFor (returns2 point.rem (now (left .entry)) flag (now (right .entry)) (now (out .entry)) (now (work .entry))))
         × (now (out .exit) ≡ out2 point.rem (now (left .entry)) flag (now (right .entry)) (now (out .entry)) (now (work .entry)))
-        × (now (work .exit) ≡ work2 point.rem (now (left .entry)) flag (now (right .entry)) (now (out .entry)) (now (work .entry))) ⌝ }
+        × (now (work .exit) ≡ work2 point.rem (now (left .entry)) flag (now (right .entry)) (now (out .entry)) (now (work .entry))) ⌝
+        ∗ ⌜ Held2 point.rem (now (left .entry)) flag (now (right .entry)) r (now (out .exit)) ⌝ }
 {
     joined(Op::Rem, left, flag, right, work, out)
 }
@@ -92,7 +100,8 @@ pub fn rem(left: &[i64], flag: bool, right: &[i64], work: &mut [i64], out: &mut 
 pub fn not(left: &[i64], out: &mut [i64]) -> Reply
     ensures { λ r.
         ⌜ (r ≡ replyFor (returns1 point.not′ (now (left .entry)) false (now (out .entry)) []))
-        × (now (out .exit) ≡ out1 point.not′ (now (left .entry)) false (now (out .entry)) []) ⌝ }
+        × (now (out .exit) ≡ out1 point.not′ (now (left .entry)) false (now (out .entry)) []) ⌝
+        ∗ ⌜ Held1 point.not′ (now (left .entry)) false r (now (out .exit)) ⌝ }
 {
     negated(left, out)
 }
@@ -101,7 +110,8 @@ pub fn not(left: &[i64], out: &mut [i64]) -> Reply
 pub fn and(left: &[i64], right: &[i64], out: &mut [i64]) -> Reply
     ensures { λ r.
         ⌜ (r ≡ replyFor (returns2 point.and (now (left .entry)) false (now (right .entry)) (now (out .entry)) []))
-        × (now (out .exit) ≡ out2 point.and (now (left .entry)) false (now (right .entry)) (now (out .entry)) []) ⌝ }
+        × (now (out .exit) ≡ out2 point.and (now (left .entry)) false (now (right .entry)) (now (out .entry)) []) ⌝
+        ∗ ⌜ Held2 point.and (now (left .entry)) false (now (right .entry)) r (now (out .exit)) ⌝ }
 {
     related(Relation::And, left, right, out)
 }
@@ -110,7 +120,8 @@ pub fn and(left: &[i64], right: &[i64], out: &mut [i64]) -> Reply
 pub fn or(left: &[i64], right: &[i64], out: &mut [i64]) -> Reply
     ensures { λ r.
         ⌜ (r ≡ replyFor (returns2 point.or (now (left .entry)) false (now (right .entry)) (now (out .entry)) []))
-        × (now (out .exit) ≡ out2 point.or (now (left .entry)) false (now (right .entry)) (now (out .entry)) []) ⌝ }
+        × (now (out .exit) ≡ out2 point.or (now (left .entry)) false (now (right .entry)) (now (out .entry)) []) ⌝
+        ∗ ⌜ Held2 point.or (now (left .entry)) false (now (right .entry)) r (now (out .exit)) ⌝ }
 {
     related(Relation::Or, left, right, out)
 }
@@ -119,7 +130,8 @@ pub fn or(left: &[i64], right: &[i64], out: &mut [i64]) -> Reply
 pub fn int_le(left: &[i64], right: &[i64], out: &mut [i64]) -> Reply
     ensures { λ r.
         ⌜ (r ≡ replyFor (returns2 point.le (now (left .entry)) false (now (right .entry)) (now (out .entry)) []))
-        × (now (out .exit) ≡ out2 point.le (now (left .entry)) false (now (right .entry)) (now (out .entry)) []) ⌝ }
+        × (now (out .exit) ≡ out2 point.le (now (left .entry)) false (now (right .entry)) (now (out .entry)) []) ⌝
+        ∗ ⌜ Held2 point.le (now (left .entry)) false (now (right .entry)) r (now (out .exit)) ⌝ }
 {
     related(Relation::Le, left, right, out)
 }
@@ -128,16 +140,18 @@ pub fn int_le(left: &[i64], right: &[i64], out: &mut [i64]) -> Reply
 pub fn int_lt(left: &[i64], right: &[i64], out: &mut [i64]) -> Reply
     ensures { λ r.
         ⌜ (r ≡ replyFor (returns2 point.lt (now (left .entry)) false (now (right .entry)) (now (out .entry)) []))
-        × (now (out .exit) ≡ out2 point.lt (now (left .entry)) false (now (right .entry)) (now (out .entry)) []) ⌝ }
+        × (now (out .exit) ≡ out2 point.lt (now (left .entry)) false (now (right .entry)) (now (out .entry)) []) ⌝
+        ∗ ⌜ Held2 point.lt (now (left .entry)) false (now (right .entry)) r (now (out .exit)) ⌝ }
 {
     related(Relation::Lt, left, right, out)
 }
 
-// A set that holds what `!=` gives of two members: none, 0, 1000 or both.
+// A set that holds what `!=` gives of two members: 0, 1000 or both; 1000 where a set is empty.
 pub fn int_ne(left: &[i64], right: &[i64], out: &mut [i64]) -> Reply
     ensures { λ r.
         ⌜ (r ≡ replyFor (returns2 point.ne (now (left .entry)) false (now (right .entry)) (now (out .entry)) []))
-        × (now (out .exit) ≡ out2 point.ne (now (left .entry)) false (now (right .entry)) (now (out .entry)) []) ⌝ }
+        × (now (out .exit) ≡ out2 point.ne (now (left .entry)) false (now (right .entry)) (now (out .entry)) []) ⌝
+        ∗ ⌜ Held2 point.ne (now (left .entry)) false (now (right .entry)) r (now (out .exit)) ⌝ }
 {
     related(Relation::Ne, left, right, out)
 }
@@ -145,7 +159,8 @@ pub fn int_ne(left: &[i64], right: &[i64], out: &mut [i64]) -> Reply
 // The set of the members of either.
 pub fn union(left: &[i64], right: &[i64], out: &mut [i64]) -> Reply
     ensures { λ r.
-        ⌜ (r ≡ replyFor (returnsUnion (now (left .entry)) (now (right .entry)) (now (out .entry)))) × (now (out .exit) ≡ outUnion (now (left .entry)) (now (right .entry)) (now (out .entry))) ⌝ }
+        ⌜ (r ≡ replyFor (returnsUnion (now (left .entry)) (now (right .entry)) (now (out .entry)))) × (now (out .exit) ≡ outUnion (now (left .entry)) (now (right .entry)) (now (out .entry))) ⌝
+        ∗ ⌜ JustEither (now (left .entry)) (now (right .entry)) r (now (out .exit)) ⌝ }
 {
     walked(Walk::Union, left, right, out)
 }
@@ -153,7 +168,8 @@ pub fn union(left: &[i64], right: &[i64], out: &mut [i64]) -> Reply
 // The set of the members of both.
 pub fn intersect(left: &[i64], right: &[i64], out: &mut [i64]) -> Reply
     ensures { λ r.
-        ⌜ (r ≡ replyFor (returnsIntersect (now (left .entry)) (now (right .entry)) (now (out .entry)))) × (now (out .exit) ≡ outIntersect (now (left .entry)) (now (right .entry)) (now (out .entry))) ⌝ }
+        ⌜ (r ≡ replyFor (returnsIntersect (now (left .entry)) (now (right .entry)) (now (out .entry)))) × (now (out .exit) ≡ outIntersect (now (left .entry)) (now (right .entry)) (now (out .entry))) ⌝
+        ∗ ⌜ JustBoth (now (left .entry)) (now (right .entry)) r (now (out .exit)) ⌝ }
 {
     walked(Walk::Intersect, left, right, out)
 }

@@ -26,7 +26,7 @@ ghost use Rattle.wide.specs.Range.{rangeOf};
 ghost use Rattle.products.specs.Narrow.{Narrow};
 
 // The intervals of a range, its wrapped ends divided by 1000; MIN and MAX, the ends that the rule writes, are not divided.
-pub fn put_thousandths(out: &mut [i64], range: Range) -> usize
+fn put_thousandths(out: &mut [i64], range: Range) -> usize
     requires { ⌜ 4 ≤ length (now out) ⌝ }
     ensures { λ r. ⌜ Wrote r (pieces thousandth (rangeOf range)) (now (out .exit)) (now (out .entry)) ⌝ }
 {
@@ -38,7 +38,7 @@ pub fn put_thousandths(out: &mut [i64], range: Range) -> usize
 }
 
 // [s,e] times [t,f], of any length.
-pub fn mul_wide(out: &mut [i64], s: i64, e: i64, t: i64, f: i64) -> usize
+fn mul_wide(out: &mut [i64], s: i64, e: i64, t: i64, f: i64) -> usize
     requires { ⌜ 4 ≤ length (now out) ⌝ }
     ensures { λ r. ⌜ Wrote r (mulPair s e t f) (now (out .exit)) (now (out .entry)) ⌝ }
 {
@@ -49,7 +49,7 @@ pub fn mul_wide(out: &mut [i64], s: i64, e: i64, t: i64, f: i64) -> usize
 }
 
 // The least and the greatest corner of narrow intervals.
-pub fn narrow_corners(s: i64, e: i64, t: i64, f: i64) -> Ends
+fn narrow_corners(s: i64, e: i64, t: i64, f: i64) -> Ends
     requires { ⌜ Narrow s e ⌝ ∗ ⌜ Narrow t f ⌝ }
     ensures { λ r. ⌜ (r .lo ≡ leastCorner _*ℤ_ s e t f) × (r .hi ≡ greatestCorner _*ℤ_ s e t f) ⌝ }
 {
@@ -63,7 +63,7 @@ pub fn narrow_corners(s: i64, e: i64, t: i64, f: i64) -> Ends
 }
 
 // [s,e] times [t,f], both narrow.
-pub fn mul_narrow(out: &mut [i64], s: i64, e: i64, t: i64, f: i64) -> usize
+fn mul_narrow(out: &mut [i64], s: i64, e: i64, t: i64, f: i64) -> usize
     requires { ⌜ Narrow s e ⌝ ∗ ⌜ Narrow t f ⌝ ∗ ⌜ 4 ≤ length (now out) ⌝ }
     ensures { λ r. ⌜ Wrote r (mulPair s e t f) (now (out .exit)) (now (out .entry)) ⌝ }
 {
@@ -72,7 +72,7 @@ pub fn mul_narrow(out: &mut [i64], s: i64, e: i64, t: i64, f: i64) -> usize
 }
 
 // Whether [s,e] is narrow: its ends are at most 2^31 from 0.
-pub fn narrow(s: i64, e: i64) -> bool
+fn narrow(s: i64, e: i64) -> bool
     ensures { λ r. ⌜ r ≡ (leZ (negsuc 2147483647) s && leZ e (pos 2147483648)) ⌝ }
 {
     if -2147483648 <= s {

@@ -2,28 +2,29 @@
 use lib.IntN.{ℤ, pos, negsuc, _*ℤ_}
 use lib.ListN.{length}
 use lib.Signed.{ltZ, quotZ, _≤ℤ_}
-use mathlib.Core.Path.{_≡_, sym, ap, _∙_, subst}
+use mathlib.Core.Path.{_≡_, refl, sym, ap, _∙_, subst}
+use mathlib.Core.Logic.{⊎-elim, _≢_}
 use mir.Syntax.{w64}
 use mir.Val.{SFits}
-use mir.Facts.{toZ-ofZ}
 use mathlib.Core.Bool.{Bool, true, false, cond, _&&_}
 use mathlib.Core.List.{List, [], _++_, append-nil}
 use Prim.Native.Nat.{ℕ, _≤_}
 use native.Mathlib.Omega.{arith}
-use Rattle.meaning.specs.Number.{MIN, MAX, ONE, within, wrap}
+use Rattle.meaning.specs.Number.{MIN, MAX, ONE, within, smaller, larger}
 use Rattle.meaning.specs.Interval.{Interval, span, only, Proper, each, without, Spread, pieces, spread, unscaled, leastCorner, greatestCorner, divPlain, divPiece, divSpread, divPart, divPair}
 use Rattle.meaning.specs.NumberIntervals.{flat}
 use Rattle.meaning.proofs.Wrapping.{wrap-id}
-use Rattle.meaning.proofs.Machine.{range-fits, rd}
+use Rattle.meaning.proofs.Machine.{range-fits}
 use Rattle.meaning.proofs.Integers.{zarith, ≤ℤ-trans, and-both, from-within, above-out, below-out, if-yes, if-no}
 use Rattle.meaning.proofs.Flat.{length-flat}
 use Rattle.meaning.proofs.Members.{AllProper}
 use Rattle.meaning.proofs.Parts.{without-none, low-part, high-part, one-sign, ends-at-minus-one}
-use Rattle.meaning.proofs.Quotients.{Plain, plain-both, plain-left, plain-right, thousands-proper, div-few}
+use Rattle.meaning.proofs.Quotients.{Plain, start-left, end-left, start-right, end-right, plain-fits, plain-both, plain-left, plain-right, thousands-proper, div-few}
 use Rattle.wide.specs.Range.{rangeOf}
 use Rattle.wide.specs.declared.spread.Range.{Range}
 use Rattle.wide.specs.declared.spread.Range.the-variants.{Whole, One, Two}
 use Rattle.interval.proofs.Cuts.{each-cut, each-single, room-two}
+use Rattle.quotients.specs.Hull.{wrappedQuotient, hull}
 
 -- the ends of an interval from MIN to MAX
 pub start-fits : {a b : ℤ} → Proper a b → SFits w64 a
@@ -32,16 +33,38 @@ start-fits o = range-fits (record { above = o .low; below = ≤ℤ-trans (o .ord
 pub end-fits : {a b : ℤ} → Proper a b → SFits w64 b
 end-fits o = range-fits (record { above = ≤ℤ-trans (o .low) (o .ordered); below = o .high })
 
--- a quotient that fits, as `quot` returns it
-pub quot-of : {x y : ℤ} → SFits w64 x → SFits w64 y → SFits w64 (quotZ x y) → wrap (quotZ (rd x) (rd y)) ≡ quotZ x y
-quot-of {x} {y} f g h = (λ i. wrap (quotZ (toZ-ofZ f i) (toZ-ofZ g i))) ∙ wrap-id (quotZ x y) h
-
 -- MIN + 1
 abbrev pub AFTER : ℤ
 AFTER = negsuc 9223372036854775806
 
+-- ---- the hull of corner quotients
+
+pub hull-room : (a b t f : ℤ) {n : ℕ} → length (flat (hull a b t f)) ≤ n → 2 ≤ n
+unfolding hull
+hull-room a b t f h = room-two (leastCorner wrappedQuotient a b t f) (greatestCorner wrappedQuotient a b t f) h
+
 pub plain-room : (a b t f : ℤ) {n : ℕ} → length (flat (divPlain a b t f)) ≤ n → 2 ≤ n
 plain-room a b t f h = room-two (leastCorner quotZ a b t f) (greatestCorner quotZ a b t f) h
+
+-- any two hulls are as long
+pub hull-if-room : {k j : Bool} (s e t f a b u v : ℤ) {n : ℕ} → k ≡ j → length (flat (cond j (divPlain a b u v) [])) ≤ n → length (flat (cond k (hull s e t f) [])) ≤ n
+unfolding hull flat
+hull-if-room {j = true} s e t f a b u v {n = n} q h = subst (λ (x : Bool). length (flat (cond x (hull s e t f) [])) ≤ n) (sym q) h
+hull-if-room {j = false} s e t f a b u v {n = n} q h = subst (λ (x : Bool). length (flat (cond x (hull s e t f) [])) ≤ n) (sym q) h
+
+-- in a plain case each corner quotient fits, so it is its own wrapped value
+pub hull-plain : {s e t f : ℤ} → Plain s e t f → hull s e t f ≡ divPlain s e t f
+unfolding hull leastCorner greatestCorner
+hull-plain {s} {e} {t} {f} p =
+    let a = wrap-id (quotZ s t) (plain-fits p (start-left p) (start-right p)) in
+    let b = wrap-id (quotZ s f) (plain-fits p (start-left p) (end-right p)) in
+    let c = wrap-id (quotZ e t) (plain-fits p (end-left p) (start-right p)) in
+    let d = wrap-id (quotZ e f) (plain-fits p (end-left p) (end-right p)) in
+    λ i. span (smaller (smaller (a i) (b i)) (smaller (c i) (d i))) (larger (larger (a i) (b i)) (larger (c i) (d i)))
+
+hull-if-plain : {s e t f : ℤ} (k : Bool) → (k ≡ true → Plain s e t f) → cond k (hull s e t f) [] ≡ cond k (divPlain s e t f) []
+hull-if-plain true p = hull-plain (p refl)
+hull-if-plain false p = refl
 
 -- D without MIN by R, and D by R without −1, where they are
 abbrev pub pastPart : ℤ → ℤ → ℤ → List Interval
@@ -53,6 +76,12 @@ shortPart a b t = cond (ltZ t (negsuc 0)) (divPlain a b t (negsuc 1)) []
 -- ---- a spread piece D = [a,b]
 
 module _ {a b t f : ℤ} (o : Proper a b) (r : t ≤ℤ f) (z : within t (pos 0) f ≡ false) where
+  pub start-nonzero : t ≢ pos 0
+  start-nonzero e = ⊎-elim (λ q. absurd (omega (zarith, q, e))) (λ q. absurd (omega (zarith, q, r, e))) (one-sign z)
+
+  pub end-nonzero : f ≢ pos 0
+  end-nonzero e = ⊎-elim (λ q. absurd (omega (zarith, q, r, e))) (λ q. absurd (omega (zarith, q, e))) (one-sign z)
+
   module _ (e : (within a MIN b && within t (negsuc 0) f) ≡ true) where
     first-low : a ≤ℤ MIN
     first-low = from-within a MIN b (and-both (within a MIN b) (within t (negsuc 0) f) e .0) .above
@@ -60,11 +89,17 @@ module _ {a b t f : ℤ} (o : Proper a b) (r : t ≤ℤ f) (z : within t (pos 0)
     last-is : f ≡ negsuc 0
     last-is = ends-at-minus-one (one-sign z) (and-both (within a MIN b) (within t (negsuc 0) f) e .1)
 
-    pub special-left : ltZ MIN b ≡ true → Plain AFTER b t f
+    special-left : ltZ MIN b ≡ true → Plain AFTER b t f
     special-left h = plain-left o r (one-sign z) (high-part first-low (omega zarith))
 
-    pub special-right : ltZ t (negsuc 0) ≡ true → Plain a b t (negsuc 1)
+    special-right : ltZ t (negsuc 0) ≡ true → Plain a b t (negsuc 1)
     special-right h = plain-right o r (one-sign z) (low-part (omega zarith) (omega (zarith, last-is)))
+
+    pub past-hull : cond (ltZ MIN b) (hull AFTER b t f) [] ≡ pastPart b t f
+    past-hull = hull-if-plain (ltZ MIN b) special-left
+
+    pub short-hull : cond (ltZ t (negsuc 0)) (hull a b t (negsuc 1)) [] ≡ shortPart a b t
+    short-hull = hull-if-plain (ltZ t (negsuc 0)) special-right
 
     left-is : pastPart b t f ≡ each (λ u v. divPlain u v t f) (without MIN a b)
     left-is =
@@ -88,8 +123,8 @@ module _ {a b t f : ℤ} (o : Proper a b) (r : t ≤ℤ f) (z : within t (pos 0)
     unfolding divPiece
     plain-piece = if-no (only MIN ++ (each (λ u v. divPlain u v t f) (without MIN a b) ++ each (divPlain a b) (without (negsuc 0) t f))) (divPlain a b t f) e
 
-    pub plain-asked : Plain a b t f
-    plain-asked = plain-both o r (one-sign z) e
+    pub plain-hull : hull a b t f ≡ divPiece a b t f
+    plain-hull = hull-plain (plain-both o r (one-sign z) e) ∙ plain-piece
 
 -- ---- a part of the divisor, by the spread of 1000·s and 1000·e
 

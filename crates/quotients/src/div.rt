@@ -50,9 +50,9 @@ fn div_part(out: &mut [i64], s: i64, e: i64, t: i64, f: i64) -> usize
         Range::Whole => put_one(out, MIN, MAX),
         Range::One(u, v) => div_piece(out, u, v, t, f),
         Range::Two(u, v) => {
-            let n = div_piece(out, u, MAX, t, f);
-            let m = div_piece(&mut out[n..], MIN, v, t, f);
-            n + m
+            let upper = div_piece(out, u, MAX, t, f);
+            let lower = div_piece(&mut out[upper..], MIN, v, t, f);
+            upper + lower
         }
     }
 }
@@ -71,9 +71,9 @@ pub fn div_pair(out: &mut [i64], s: i64, e: i64, t: i64, f: i64) -> usize
     ensures { λ r. ⌜ Wrote r (divPair s e t f) (now (out .exit)) (now (out .entry)) ⌝ }
 {
     if holds(t, 0, f) {
-        let n = div_part_if(out, less(t, 0), s, e, t, -1);
-        let m = div_part_if(&mut out[n..], less(0, f), s, e, 1, f);
-        n + m
+        let below = div_part_if(out, less(t, 0), s, e, t, -1);
+        let above = div_part_if(&mut out[below..], less(0, f), s, e, 1, f);
+        below + above
     } else {
         div_part(out, s, e, t, f)
     }

@@ -1,18 +1,19 @@
-// A plain case of div: the hull of four corner quotients.
+// The hull of four corner quotients, for the plain cases of div.
 use number::quot;
 use slices::greater;
 use slices::lesser;
 use slices::put_one;
 ghost use mathlib.Core.Path.{_≡_};
-ghost use mathlib.Core.Bool.{true, cond};
+ghost use mathlib.Core.Bool.{cond};
 ghost use mathlib.Core.List.{[]};
 ghost use Prim.Native.Nat.{_≤_};
+ghost use mathlib.Core.Logic.{_≢_};
 ghost use lib.ListN.{length};
+ghost use lib.IntN.{pos};
 ghost use Rattle.meaning.specs.Number.{smaller, larger};
-ghost use Rattle.meaning.specs.Interval.{divPlain};
 ghost use Rattle.meaning.specs.NumberIntervals.{flat};
-ghost use Rattle.meaning.proofs.Quotients.{Plain};
 ghost use Rattle.slices.specs.Wrote.{Wrote};
+ghost use Rattle.quotients.specs.Hull.{hull};
 
 // The least of four numbers.
 fn least(a: i64, b: i64, c: i64, d: i64) -> i64
@@ -30,8 +31,8 @@ fn greatest(a: i64, b: i64, c: i64, d: i64) -> i64
 
 // [s,e] by [t,f].
 pub fn put_hull(out: &mut [i64], s: i64, e: i64, t: i64, f: i64) -> usize
-    requires { ⌜ Plain s e t f ⌝ ∗ ⌜ 2 ≤ length (now out) ⌝ }
-    ensures { λ r. ⌜ Wrote r (divPlain s e t f) (now (out .exit)) (now (out .entry)) ⌝ }
+    requires { ⌜ t ≢ pos 0 ⌝ ∗ ⌜ f ≢ pos 0 ⌝ ∗ ⌜ 2 ≤ length (now out) ⌝ }
+    ensures { λ r. ⌜ Wrote r (hull s e t f) (now (out .exit)) (now (out .entry)) ⌝ }
 {
     let a = quot(s, t);
     let b = quot(s, f);
@@ -44,8 +45,8 @@ pub fn put_hull(out: &mut [i64], s: i64, e: i64, t: i64, f: i64) -> usize
 
 // The same where `there` says so, else nothing.
 pub fn put_hull_if(out: &mut [i64], there: bool, s: i64, e: i64, t: i64, f: i64) -> usize
-    requires { ⌜ (there ≡ true → Plain s e t f) ⌝ ∗ ⌜ length (flat (cond there (divPlain s e t f) [])) ≤ length (now out) ⌝ }
-    ensures { λ r. ⌜ Wrote r (cond there (divPlain s e t f) []) (now (out .exit)) (now (out .entry)) ⌝ }
+    requires { ⌜ t ≢ pos 0 ⌝ ∗ ⌜ f ≢ pos 0 ⌝ ∗ ⌜ length (flat (cond there (hull s e t f) [])) ≤ length (now out) ⌝ }
+    ensures { λ r. ⌜ Wrote r (cond there (hull s e t f) []) (now (out .exit)) (now (out .entry)) ⌝ }
 {
     if there { put_hull(out, s, e, t, f) } else { 0 }
 }

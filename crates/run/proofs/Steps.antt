@@ -1,6 +1,5 @@
--- One line on the state, and all of them in order. Assumes nothing.
+-- The lines of a run in order, and the call. Assumes nothing.
 use mathlib.Core.Path.{_≡_, refl, sym, ap, subst, _∙_}
-use mathlib.Core.Bool.{Bool, true, false, cond}
 use mathlib.Core.List.{List, _∷_, _++_, append-nil}
 use Prim.Native.Nat.{ℕ, _+_, _-_, _≤_, _<_}
 use native.Mathlib.Omega.{arith}
@@ -10,109 +9,25 @@ use lib.ListN.{length, getD, set, take, drop, replicate, length-set, length-repl
 use lib.Seq.{getD-take, take-all, length-take-le}
 use borrow.Author.Tests.{lt-ltb, le-ltb}
 use Rattle.meaning.specs.Lists.{over}
-use Rattle.meaning.specs.Outcome.{Res, ok, stop, bind, Outcome, done, stopped, work}
+use Rattle.meaning.specs.Outcome.{ok, stop, bind, Outcome, done, stopped, work}
 use Rattle.meaning.specs.Number.{within}
-use Rattle.meaning.specs.Sheet.{registers, Form, put, hold, Line, input, act, FineAct, FineLine}
-use Rattle.meaning.specs.Reading.{got, arg, tree, readLine}
+use Rattle.meaning.specs.Sheet.{registers, put, hold, Line, input, act, FineLine}
 use Rattle.meaning.specs.Text.{read}
 use Rattle.meaning.specs.Run.{valueOf, runAct, runLine, startNumbers, run, Judged, refused, worked, judge, runText, verdict, runCall, leftBy, runLent}
-use Rattle.meaning.proofs.Integers.{by-test}
 use Rattle.meaning.proofs.Work.{ok-same, bind-ok, guard-ok}
 use Rattle.meaning.proofs.Fine.{read-line-fine}
-use Rattle.forms.specs.Answer.{lineFrom}
-use Rattle.forms.specs.declared.LineForm.{LineForm}
-use Rattle.forms.specs.declared.LineForm.the-variants as line
-use Rattle.forms.proofs.Lines.{put-reads}
 use Rattle.sheet.specs.Answer.{judgementFor, IsSheet}
 use Rattle.sheet.specs.declared.Judgement.{Judgement}
 use Rattle.sheet.specs.declared.Judgement.the-variants as judgement
 use Rattle.sheet.specs.Feed.{feed}
 use Rattle.sheet.proofs.Judging.{refused-read}
 use Rattle.sheet.proofs.Walk.{Walk, Next, walk-start, walk-next, walk-done}
-use Rattle.run.specs.Answer.{resOf, points, putValue, goIf, lineRun, stepOf, stateLeft, Stepped, verdictOf, answerFor, Ran}
-use Rattle.run.specs.declared.Num.{Num}
-use Rattle.run.specs.declared.Num.the-variants as num
-use Rattle.run.specs.declared.Step.{Step}
-use Rattle.run.specs.declared.Step.the-variants as step
+use Rattle.run_lines.specs.Answer.{lineRun, stepOf, stateLeft, Stepped}
+use Rattle.run_lines.specs.declared.Step.{Step}
+use Rattle.run_lines.specs.declared.Step.the-variants as step
+use Rattle.run.specs.Answer.{verdictOf, answerFor, Ran}
 use Rattle.run.specs.declared.Answer.{Answer}
 use Rattle.run.specs.declared.Answer.the-variants as answer
-use Rattle.run.proofs.Points.{put-value}
-
--- ---- one line
-
-module _ (lent state : List ℤ) (s : List ℕ) (l : LineForm) (el : lineFrom s l ≡ readLine s) where
-  abbrev Does : Step → List ℤ → Type 0
-  Does k after = Stepped k after state (lineRun lent state s)
-
-  goes : {k : Step} {after : List ℤ} → k ≡ step.Go → lineRun lent state s ≡ ok after → Does k after
-  goes {k} {after} d e = record { step = ap (λ (x : Step). stepOf x after) d ∙ sym e; left = sym (ap (stateLeft state) e) }
-
-  halts : {k : Step} {after : List ℤ} {n : ℕ} → k ≡ step.Stop n → after ≡ state → lineRun lent state s ≡ stop n → Does k after
-  halts {k} {after} d b e = record { step = ap (λ (x : Step). stepOf x after) d ∙ sym e; left = b ∙ sym (ap (stateLeft state) e) }
-
-  reads-as : {x : Line} → readLine s ≡ ok x → lineRun lent state s ≡ runLine lent state x
-  unfolding lineRun bind
-  reads-as e = rw e
-
-  refused-is : {k : ℕ} → readLine s ≡ stop k → lineRun lent state s ≡ stop k
-  unfolding lineRun bind
-  refused-is e = rw e
-
-  pub refused-halts : {k : ℕ} → l ≡ line.Refused k → Does (step.Stop k) state
-  refused-halts e = halts refl refl (refused-is (sym el ∙ ap (lineFrom s) e))
-
-  module _ {r : ℕ} {lo hi : ℤ} (e : l ≡ line.In r lo hi) where
-    in-line : readLine s ≡ ok (input r lo hi)
-    in-line = sym el ∙ ap (lineFrom s) e
-
-    pub in-there : r < registers
-    unfolding FineLine
-    in-there = read-line-fine s in-line .there
-
-    pub in-steps : {v : ℤ} {fits : Bool} {after : List ℤ} {k : Step} → v ≡ getD lent r (pos 0) → fits ≡ within lo (getD lent r (pos 0)) hi → after ≡ cond fits (set state r v) state
-        → k ≡ goIf fits 22 → Does k after
-    unfolding runLine
-    in-steps {v} {fits} {after} {k} q w a d =
-        by-test fits
-        (λ t. let b : set state r (getD lent r (pos 0)) ≡ after = sym (a ∙ rw (t, q)) in goes (d ∙ rw t) (reads-as in-line ∙ rw (sym w ∙ t, b)))
-        (λ t. halts {n = 22} (d ∙ rw t) (a ∙ rw t) (reads-as in-line ∙ rw (sym w ∙ t)))
-
-  module _ {r : ℕ} {lo hi : ℤ} (e : l ≡ line.Hold r lo hi) where
-    hold-line : readLine s ≡ ok (act (hold r lo hi))
-    hold-line = sym el ∙ ap (lineFrom s) e
-
-    pub hold-there : r < registers
-    unfolding FineLine FineAct
-    hold-there = read-line-fine s hold-line .there
-
-    pub hold-steps : {held : Bool} {k : Step} → held ≡ within lo (getD state r (pos 0)) hi → k ≡ goIf held 21 → Does k state
-    unfolding runLine runAct
-    hold-steps {held} {k} w d =
-        by-test held (λ t. goes (d ∙ rw t) (reads-as hold-line ∙ rw (sym w ∙ t))) (λ t. halts {n = 21} (d ∙ rw t) refl (reads-as hold-line ∙ rw (sym w ∙ t)))
-
-  module _ {r j : ℕ} (e : l ≡ line.Put r j) where
-    put-line : (f : Form) × (n : ℕ) × (arg tree 7 (drop j s) ≡ got f n) × (readLine s ≡ ok (act (put r f)))
-    put-line = put-reads s r j (ap (lineFrom s) (sym e) ∙ el)
-
-    pub put-there : r < registers
-    unfolding FineLine FineAct
-    put-there = read-line-fine s (put-line .3) .0
-
-    put-is : (v : Num) → resOf v ≡ putValue (arg (points state) 7 (drop j s)) → lineRun lent state s ≡ bind (resOf v) (λ z. ok (set state r z))
-    unfolding runLine runAct FineLine FineAct
-    put-is v w =
-        let p = put-line in
-        reads-as (p .3) ∙ ap (λ (a : Res ℤ). bind a (λ z. ok (set state r z))) (sym (w ∙ put-value state (drop j s) (p .2) (read-line-fine s (p .3) .1)))
-
-    pub put-goes : (v : Num) {z : ℤ} {after : List ℤ} → resOf v ≡ putValue (arg (points state) 7 (drop j s)) → v ≡ num.Is z → after ≡ set state r z → Does step.Go after
-    unfolding bind
-    put-goes v w q a = goes refl (put-is v w ∙ ap (λ (u : Num). bind (resOf u) (λ z. ok (set state r z))) q ∙ ap (λ (x : List ℤ). ok x) (sym a))
-
-    pub put-halts : (v : Num) {k : ℕ} → resOf v ≡ putValue (arg (points state) 7 (drop j s)) → v ≡ num.Stop k → Does (step.Stop k) state
-    unfolding bind
-    put-halts v w q = halts refl refl (put-is v w ∙ ap (λ (u : Num). bind (resOf u) (λ z. ok (set state r z))) q)
-
--- ---- all of them
 
 -- the lent numbers of the registers are all that a line of a sheet asks of them
 given-is : (lent state : List ℤ) (l : Line) → FineLine l → runLine (take registers lent) state l ≡ runLine lent state l

@@ -1,5 +1,5 @@
 -- What a call returns and leaves, at each of its ends: a refused argument, too little work, and the answer handed out. One law an end for every call. Assumes nothing.
-use mathlib.Core.Path.{_≡_, refl, sym, ap, _∙_}
+use mathlib.Core.Path.{_≡_, refl, sym, ap, subst, _∙_}
 use mathlib.Core.Bool.{Bool, true, false, cond}
 use mathlib.Core.List.{List, []}
 use Prim.Native.Nat.{ℕ, _+_, _*_, _/_, _≤_, _<_}
@@ -11,8 +11,9 @@ use lib.ListN.{length, take, drop, replicate, length-replicate}
 use lib.IntN.{ℤ, pos}
 use Rattle.meaning.specs.Lists.{over}
 use Rattle.meaning.specs.Refusals.{tooShort, noRoom}
-use Rattle.meaning.specs.NumberIntervals.{Set, union, flat, intervals, normal}
-use Rattle.meaning.specs.SetCalls.{need1, need2, refusal, refusal2, Returned, written, refused, callReturns, callOut, callWork}
+use Rattle.meaning.specs.Number.{Op1}
+use Rattle.meaning.specs.NumberIntervals.{Set, union, set1, flag1, flat, intervals, normal}
+use Rattle.meaning.specs.SetCalls.{factor1, need1, need2, refusal, refusal2, written, refused, callReturns, callOut, callWork}
 use Rattle.meaning.proofs.Integers.{cond-case}
 use Rattle.meaning.proofs.Over.{over-same, take-over}
 use Rattle.slices.specs.Wrote.{Wrote}
@@ -20,9 +21,13 @@ use Rattle.slices.proofs.Lent.{same-long}
 use Rattle.sets.specs.Sets.{United}
 use Rattle.cores.specs.declared.Core.{Core}
 use Rattle.cores.specs.Cored.{Cored}
-use Rattle.set_calls.specs.Returning.{returned, replyFor, Ended, Handed, Walked}
-use Rattle.set_calls.specs.declared.Reply.{Reply}
-use Rattle.set_calls.specs.declared.Reply.the-variants.{Written, Refused}
+use Rattle.cores.specs.declared.Op.{Op}
+use Rattle.cores.specs.Operation.{factorOf, setOf, flagOf, Alone}
+use Rattle.cores.proofs.Operations.{alone-is}
+use Rattle.replies.specs.Returning.{replyFor, Ended, Handed}
+use Rattle.replies.specs.declared.Reply.{Reply}
+use Rattle.replies.specs.declared.Reply.the-variants.{Written, Refused}
+use Rattle.set_calls.specs.Walks.{Walked}
 
 -- zeroing hides what was done before the need's end
 zeroed : (old new : List ℤ) (need : ℕ) → drop need new ≡ drop need old → over (replicate need (pos 0)) new ≡ over (replicate need (pos 0)) old
@@ -47,20 +52,6 @@ module _ (k need : ℕ) (answer : Set) (flag : Bool) (out work : List ℤ) where
       → Ended k need answer flag out work (replyFor (cond (ltb (length out) n) (refused noRoom) (written n flag))) (cond (ltb (length out) n) out (over ends out)) (over (replicate need (pos 0)) work)
   unfolding callReturns callOut callWork
   call-done n ends e f h s = rw (eq-eqb k 0 h, le-ltb (length work) need s, e, f) (refl, refl, refl)
-
-  -- a reply says what it was made for
-  pub returned-reply : {r : Reply} → r ≡ replyFor (callReturns k need answer flag out work) → returned r ≡ callReturns k need answer flag out work
-  unfolding callReturns
-  returned-reply e = ap returned e ∙ go (eqb k 0) (ltb (length work) need) (ltb (length out) (length (flat answer))) refl
-    where
-      Says : Returned → Type 0
-      Says x = returned (replyFor x) ≡ x
-
-      go : (a b c : Bool) → eqb k 0 ≡ a → Says (cond a (cond b (refused tooShort) (cond c (refused noRoom) (written (length (flat answer)) flag))) (refused k))
-      go true true c p = refl
-      go true false true p = refl
-      go true false false p = refl
-      go false b c p = rw p refl
 
   -- a call that ends with a core's answer: r is the need as the code has it
   pub call-ended : {c : Core} {new : List ℤ} → k ≡ 0 → (r : ℕ) → r ≡ need → r ≤ length work → Cored answer flag need work new c
@@ -87,11 +78,27 @@ module _ (k : ℕ) (answer : Set) (flag : Bool) (out : List ℤ) where
       → Handed k 0 answer flag out rep o
   call-handed {n} {new} w h p q = let d = call-done k 0 answer flag out [] n (take n new) (w .count) (w .front) h (omega arith) in (p ∙ d .0, q ∙ d .1)
 
+-- the same end, with its parts in other words
+pub handed-as : (out : List ℤ) {k j n m : ℕ} {x y : Set} {f g : Bool} {o : List ℤ} {r : Reply} → k ≡ j → n ≡ m → x ≡ y → f ≡ g → Handed k n x f out r o → Handed j m y g out r o
+handed-as out e n a f h = (h .0 ∙ (λ i. replyFor (callReturns (e i) (n i) (a i) (f i) out [])), h .1 ∙ (λ i. callOut (e i) (n i) (a i) (f i) out []))
+
 pub walked-wrote : {n : ℕ} {x : Set} {new old : List ℤ} → Wrote n x new old → Walked x new n
 walked-wrote {n} {x} {new} {old} w = record { count = w .count; room = omega (arith, w .room, same-long w); front = (λ i. take (w .count i) (w .left i)) ∙ take-over (flat x) old }
 
 pub walked-united : {n : ℕ} {l m old new : List ℤ} → United l m old new n → length l + length m ≤ length new → Walked (union (intervals l) (intervals m)) new n
 walked-united u h = record { count = u .count; room = omega (arith, u .room, h); front = u .front }
+
+-- ---- a core that was handed the whole of each set, L and R, has worked on the sets themselves
+
+pub need-whole : (k n : ℕ) {L R l r : List ℤ} → L ≡ l → R ≡ r → need2 k l r ≤ n → need2 k L R ≤ n
+need-whole k n e f h = subst (λ (x : ℕ). x ≤ n) (λ i. need2 k (sym e i) (sym f i)) h
+
+pub cored-whole : (o : Op) (flag : Bool) (old new : List ℤ) (c : Core) {L R l r : List ℤ} → L ≡ l → R ≡ r
+    → Cored (setOf o (intervals L) (intervals R)) (flagOf o flag (intervals L) (intervals R)) (need2 (factorOf o) L R) old new c
+    → Cored (setOf o (intervals l) (intervals r)) (flagOf o flag (intervals l) (intervals r)) (need2 (factorOf o) l r) old new c
+cored-whole o flag old new c {L} {R} {l} {r} e f h =
+    subst (λ (x : List ℤ). Cored (setOf o (intervals l) (intervals x)) (flagOf o flag (intervals l) (intervals x)) (need2 (factorOf o) l x) old new c) f
+    (subst (λ (x : List ℤ). Cored (setOf o (intervals x) (intervals R)) (flagOf o flag (intervals x) (intervals R)) (need2 (factorOf o) x R) old new c) e h)
 
 -- what a core and the end of a call ask for
 pub enough : {r need n : ℕ} → r ≡ need → r ≤ n → need ≤ n
@@ -113,8 +120,22 @@ alone-refusal : (left : List ℤ) → refusal2 left (replicate 2 (pos 0)) ≡ re
 unfolding refusal2 refusal normal
 alone-refusal left = cond-case (λ (k : ℕ). k ≡ refusal left) (eqb (refusal left) 0) 0 (refusal left) (λ e. sym (eqb-true (refusal left) 0 e)) (λ _. refl)
 
-pub alone-asks : {k j : ℕ} → k ≡ j → (left : List ℤ) → (refusal2 left (replicate 2 (pos 0)) ≡ refusal left) × (need2 k left (replicate 2 (pos 0)) ≡ need1 j left)
-alone-asks {k} {j} e left = (alone-refusal left, ap (λ (x : ℕ). 2 * x * (length left / 2) * 1) e ∙ mul-one (2 * j * (length left / 2)))
+alone-need : {k j : ℕ} → k ≡ j → (left : List ℤ) → need2 k left (replicate 2 (pos 0)) ≡ need1 j left
+alone-need {k} {j} e left = ap (λ (x : ℕ). 2 * x * (length left / 2) * 1) e ∙ mul-one (2 * j * (length left / 2))
+
+-- an operation on one set ends as its operation on that set and {0}
+pub alone-ended : {o : Op} {p : Op1} → Alone o p → (left : List ℤ) (flag : Bool) (out work : List ℤ) {r : Reply} {a w : List ℤ}
+    → Ended (refusal2 left (replicate 2 (pos 0))) (need2 (factorOf o) left (replicate 2 (pos 0))) (setOf o (intervals left) (intervals (replicate 2 (pos 0))))
+    (flagOf o flag (intervals left) (intervals (replicate 2 (pos 0)))) out work r a w
+    → Ended (refusal left) (need1 (factor1 p) left) (set1 p (intervals left)) (flag1 p flag) out work r a w
+alone-ended {o} {p} x left flag out work h =
+    let is = alone-is x flag (intervals left) (intervals (replicate 2 (pos 0))) in
+    let k = alone-refusal left in
+    let n = alone-need (is .2) left in (
+      h .0 ∙ (λ i. replyFor (callReturns (k i) (n i) (is .0 i) (is .1 i) out work)),
+      h .1 ∙ (λ i. callOut (k i) (n i) (is .0 i) (is .1 i) out work),
+      h .2 ∙ (λ i. callWork (k i) (n i) (is .0 i) (is .1 i) out work),
+    )
 
 -- the need, with the factor as the code has it
 pub need-as : {r k j : ℕ} (n m : ℕ) → k ≡ j → r ≡ 2 * k * n * m → r ≡ 2 * j * n * m

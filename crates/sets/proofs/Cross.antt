@@ -250,7 +250,7 @@ module _ {l r old new : List ℤ} {i j at : ℕ} (m : Crossing l r old new i j a
     kept-on : (x y : ℤ) → drop (at + 2) (putPair new at x y) ≡ drop (at + 2) old
     kept-on x y = put-pair-drop new at x y (cross-room p q) (at + 2) (omega arith) ∙ drop-later new old at (at + 2) (m .kept) (omega arith)
 
-    pub crossing-left-out
+    crossing-left-out
         : leZ (end-at l (i + 1)) (end-at r (j + 1)) ≡ true → leZ (larger (end-at l i) (end-at r j)) (end-at l (i + 1)) ≡ true
         → Crossing l r old (putPair new at (larger (end-at l i) (end-at r j)) (end-at l (i + 1))) (i + 2) j (at + 2)
     crossing-left-out a b =
@@ -272,7 +272,7 @@ module _ {l r old new : List ℤ} {i j at : ℕ} (m : Crossing l r old new i j a
               ∙ m .so-far;
         }
 
-    pub crossing-left
+    crossing-left
         : leZ (end-at l (i + 1)) (end-at r (j + 1)) ≡ true → leZ (larger (end-at l i) (end-at r j)) (end-at l (i + 1)) ≡ false
         → Crossing l r old new (i + 2) j at
     crossing-left a b =
@@ -291,7 +291,7 @@ module _ {l r old new : List ℤ} {i j at : ℕ} (m : Crossing l r old new i j a
               ∙ m .so-far;
         }
 
-    pub crossing-right-out
+    crossing-right-out
         : leZ (end-at l (i + 1)) (end-at r (j + 1)) ≡ false → leZ (larger (end-at l i) (end-at r j)) (end-at r (j + 1)) ≡ true
         → Crossing l r old (putPair new at (larger (end-at l i) (end-at r j)) (end-at r (j + 1))) i (j + 2) (at + 2)
     crossing-right-out a b =
@@ -313,7 +313,7 @@ module _ {l r old new : List ℤ} {i j at : ℕ} (m : Crossing l r old new i j a
               ∙ m .so-far;
         }
 
-    pub crossing-right
+    crossing-right
         : leZ (end-at l (i + 1)) (end-at r (j + 1)) ≡ false → leZ (larger (end-at l i) (end-at r j)) (end-at r (j + 1)) ≡ false
         → Crossing l r old new i (j + 2) at
     crossing-right a b =
@@ -331,6 +331,30 @@ module _ {l r old new : List ℤ} {i j at : ℕ} (m : Crossing l r old new i j a
               (ap (λ (k : List ℤ). cross k (drop (j + 2) r)) two-l ∙ sym (cross-right _ _ _ _ _ _ a b) ∙ sym both)
               ∙ m .so-far;
         }
+
+  -- the four ends of a turn, from what the code compared and wrote: b says that the left interval ends first, c that the common part is not empty
+  module _ {lo : ℤ} (t : Turn l r i j lo) where
+    first : {b x : Bool} → b ≡ leZ (rd (end-at l (i + 1))) (rd (end-at r (j + 1))) → b ≡ x → leZ (end-at l (i + 1)) (end-at r (j + 1)) ≡ x
+    first e h = rw (t .e-back, t .d-back) at (sym e ∙ h)
+
+    filled : {y : ℤ} {c x : Bool} → rd y ≡ y → c ≡ leZ (rd lo) (rd y) → c ≡ x → leZ (larger (end-at l i) (end-at r j)) y ≡ x
+    filled k f h = rw (t .lo-back, k, t .lo-is) at (sym f ∙ h)
+
+    put : {y : ℤ} {w : List ℤ} → rd y ≡ y → w ≡ putPair new at (rd lo) (rd y) → w ≡ putPair new at (larger (end-at l i) (end-at r j)) y
+    put k z = rw (t .lo-back, k, t .lo-is) at z
+
+    module _ {b c : Bool} (e : b ≡ leZ (rd (end-at l (i + 1))) (rd (end-at r (j + 1)))) where
+      pub turn-left-out : b ≡ true → c ≡ leZ (rd lo) (rd (end-at l (i + 1))) → c ≡ true → {w : List ℤ} → w ≡ putPair new at (rd lo) (rd (end-at l (i + 1))) → Crossing l r old w (i + 2) j (at + 2)
+      turn-left-out h f k z = rw (put (t .e-back) z) (crossing-left-out (t .some-l) (t .some-r) (first e h) (filled (t .e-back) f k))
+
+      pub turn-left : b ≡ true → c ≡ leZ (rd lo) (rd (end-at l (i + 1))) → c ≡ false → Crossing l r old new (i + 2) j at
+      turn-left h f k = crossing-left (t .some-l) (t .some-r) (first e h) (filled (t .e-back) f k)
+
+      pub turn-right-out : b ≡ false → c ≡ leZ (rd lo) (rd (end-at r (j + 1))) → c ≡ true → {w : List ℤ} → w ≡ putPair new at (rd lo) (rd (end-at r (j + 1))) → Crossing l r old w i (j + 2) (at + 2)
+      turn-right-out h f k z = rw (put (t .d-back) z) (crossing-right-out (t .some-l) (t .some-r) (first e h) (filled (t .d-back) f k))
+
+      pub turn-right : b ≡ false → c ≡ leZ (rd lo) (rd (end-at r (j + 1))) → c ≡ false → Crossing l r old new i (j + 2) at
+      turn-right h f k = crossing-right (t .some-l) (t .some-r) (first e h) (filled (t .d-back) f k)
 
   -- one of the two is at its end
   finished : SetEnds l → SetEnds r → cross (drop i l) (drop j r) ≡ [] → Wrote at (intersect (intervals l) (intervals r)) new old

@@ -14,6 +14,11 @@ pub record SetEnds (l : List ℤ) : Type 0 where
   pub test : normal l ≡ true
   pub is : Normal (intervals l)
 
+-- the ends of a normal set of at most 16 intervals
+pub record Argument (l : List ℤ) : Type 0 where
+  pub set : SetEnds l
+  pub few : length l ≤ 32
+
 -- the first n numbers of l are the ends of intervals, in any order
 pub record Pairs (n : ℕ) (l : List ℤ) : Type 0 where
   pub room : n ≤ length l

@@ -21,7 +21,7 @@ use sorting::sort_big;
 use sorting::sort_part;
 
 // The interval at i has its start at most its end, and the next one, which is there, is apart from it.
-pub fn fine_at(s: &[i64], i: usize) -> bool
+fn fine_at(s: &[i64], i: usize) -> bool
     requires { ⌜ i + 2 < length (now s) ⌝ }
     ensures { λ r.
         ⌜ r ≡ (leZ (getD (now (s .entry)) i (pos 0)) (getD (now (s .entry)) (i + 1) (pos 0))
@@ -59,7 +59,7 @@ pub fn is_normal(s: &[i64]) -> bool
 }
 
 // x is in the interval at i.
-pub fn holds_at(s: &[i64], i: usize, x: i64) -> bool
+fn holds_at(s: &[i64], i: usize, x: i64) -> bool
     requires { ⌜ i + 1 < length (now s) ⌝ }
     ensures { λ r. ⌜ r ≡ within (getD (now (s .entry)) i (pos 0)) x (getD (now (s .entry)) (i + 1) (pos 0)) ⌝ }
 {
@@ -82,7 +82,7 @@ pub fn contains(s: &[i64], x: i64) -> bool
 }
 
 // As rebuild, with t as room for half of the numbers.
-pub fn rebuild_with(work: &mut [i64], n: usize, t: &mut [i64]) -> usize
+fn rebuild_with(work: &mut [i64], n: usize, t: &mut [i64]) -> usize
     requires { ⌜ (2 ≤ n) × (n ≤ 2 * length (now t)) × Pairs n (now work) ⌝ }
     ensures { λ r. ⌜ Rebuilt n (now (work .entry)) (now (work .exit)) r ⌝ }
 {

@@ -1,6 +1,6 @@
 -- The lines of a text by where each one ends. Assumes nothing.
 use mathlib.Core.Path.{_≡_, refl, sym, ap, _∙_}
-use mathlib.Core.Bool.{Bool, true, false, cond, _&&_}
+use mathlib.Core.Bool.{Bool, true, false, cond, _&&_, and-false}
 use mathlib.Core.List.{List, [], _∷_, _++_}
 use Prim.Native.Nat.{ℕ, zero, suc, _+_, _-_, _≤_, _<_}
 use native.Mathlib.Omega.{arith}
@@ -8,12 +8,11 @@ use native.Mathlib.Numerals.{add-one, sub-one}
 use native.Mathlib.Nat.{add-zero, zero-add}
 use lib.Dec.{eqb, leb}
 use lib.ListN.{length, getD, take, drop, drop-of-length-le, length-drop, length-append}
-use lib.Seq.{drop-cons, drop-drop, drop-length, getD-drop, length-take-le}
+use lib.Seq.{drop-cons, drop-drop, getD-drop, length-take-le}
 use borrow.Author.Tests.{eq-eqb, ne-eqb, le-leb, lt-leb, leb-true, leb-false}
 use Rattle.meaning.specs.Text.{Split, front, splitLines, lines, lineAt, cut, narrow, empty, shaped}
 use Rattle.meaning.proofs.Integers.{by-test, cond-case}
 use Rattle.meaning.proofs.Cut.{cut-past, line-at}
-use Rattle.forms.proofs.Words.{no-other}
 use Rattle.sheet.specs.Feed.{feed}
 
 module _ (s : List ℕ) (i : ℕ) where
@@ -209,12 +208,12 @@ shape-start s = rw (zero-add (length (lines s)))
 
 module _ (s : List ℕ) (n at : ℕ) {e : ℕ} (ee : e ≡ at + feed (drop at s)) (h : at < length s) where
   pub shape-unended : e ≡ length s → shapedFrom n (splitLines (drop at s)) ≡ false
-  shape-unended l = ap (shapedFrom n) (last-line s at ee (omega arith)) ∙ rw (drop-cons s at 0 h) (no-other (leb (n + 0) 256))
+  shape-unended l = ap (shapedFrom n) (last-line s at ee (omega arith)) ∙ rw (drop-cons s at 0 h) (and-false (leb (n + 0) 256))
 
   pub shape-wide : e < length s → 120 < e - at → shapedFrom n (splitLines (drop at s)) ≡ false
   shape-wide l w =
       let k : length (take (e - at) (drop at s)) ≡ e - at = length-take-le (e - at) (drop at s) (omega (arith, length-drop at s)) in
-      rw (next-lines s at ee l, k, lt-leb (e - at) 120 w) (no-other (leb (n + suc (length (lines (drop (e + 1) s)))) 256))
+      rw (next-lines s at ee l, k, lt-leb (e - at) 120 w) (and-false (leb (n + suc (length (lines (drop (e + 1) s)))) 256))
 
   pub shape-long : e < length s → n ≡ 256 → shapedFrom n (splitLines (drop at s)) ≡ false
   shape-long l w =

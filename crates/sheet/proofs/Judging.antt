@@ -18,10 +18,10 @@ use Rattle.meaning.specs.Text.{splitLines, lines, Seen, nothingSeen, among, adm
 use Rattle.meaning.proofs.Integers.{by-test}
 use Rattle.meaning.proofs.Cut.{shape-of}
 use Rattle.meaning.proofs.Fine.{read-line-fine}
-use Rattle.forms.specs.Answer.{lineFrom}
-use Rattle.forms.specs.declared.LineForm.{LineForm}
-use Rattle.forms.specs.declared.LineForm.the-variants as line
-use Rattle.forms.proofs.Lines.{refused-some, put-reads}
+use Rattle.lines.specs.Answer.{lineFrom}
+use Rattle.lines.specs.declared.LineForm.{LineForm}
+use Rattle.lines.specs.declared.LineForm.the-variants as line
+use Rattle.lines.proofs.Lines.{refused-some, put-reads}
 use Rattle.sheet.specs.declared.Judgement.{Judgement}
 use Rattle.sheet.specs.declared.Judgement.the-variants as judgement
 use Rattle.sheet.specs.Feed.{feed}

@@ -8,8 +8,8 @@ use Rattle.meaning.specs.Refusals.{misplaced}
 use Rattle.meaning.specs.Sheet.{Line}
 use Rattle.meaning.specs.Text.{Read, sheet, noSheet, read}
 use Rattle.meaning.specs.Run.{Verdict}
-use Rattle.forms.specs.declared.LineForm.{LineForm}
-use Rattle.forms.specs.declared.LineForm.the-variants as line
+use Rattle.lines.specs.declared.LineForm.{LineForm}
+use Rattle.lines.specs.declared.LineForm.the-variants as line
 use Rattle.sheet.specs.declared.Judgement.{Judgement}
 use Rattle.sheet.specs.declared.Judgement.the-variants as judgement
 

@@ -8,9 +8,9 @@ ghost use Rattle.meaning.specs.Sheet.{registers};
 ghost use Rattle.meaning.specs.Text.{lineAt, cut, splitLines, lines, shaped as shapedText, nothingSeen, readLines, read};
 ghost use Rattle.sheet.specs.Feed.{feed};
 ghost use Rattle.sheet.specs.Answer.{readVerdict, judgementOf, judgementFor, isAct, admission, takenWith, inRegister};
-use forms::LineForm;
-use forms::first;
-use forms::read_line;
+use lines::LineForm;
+use lines::read_line;
+use literals::first;
 
 // Fine with its count of lines, or refused with a number and a line.
 pub enum Judgement {

@@ -33,8 +33,9 @@ use Rattle.sheet.specs.declared.Judgement.the-variants as judgement
 use Rattle.sheet.proofs.Feeds.{end-lt}
 use Rattle.sheet.proofs.Judging.{refused-read}
 use Rattle.sheet.proofs.Walk.{Walk, Next, walk-start, walk-next, walk-done}
-use Rattle.sheet_check.specs.Value.{Shown}
-use Rattle.sheet_check.specs.Answer.{verdictOf, troubleOf, answerFor, isPass, lineCheck, Worked, Checked, Called}
+use Rattle.set_values.specs.Value.{Shown}
+use Rattle.set_lines.specs.Worked.{lineCheck, Worked}
+use Rattle.sheet_check.specs.Answer.{verdictOf, troubleOf, answerFor, isPass, Checked, Called}
 use Rattle.sheet_check.specs.declared.Answer.{Answer}
 use Rattle.sheet_check.specs.declared.Answer.the-variants as answer
 

@@ -32,10 +32,6 @@ module _ {x : List Interval} {l old : List ℤ} {r : ℕ} (w : Wrote r x l old) 
   pub same-long : length l ≡ length old
   same-long = ap length (w .left) ∙ length-over (flat x) old (omega (arith, w .count, w .room))
 
-  -- how long the rest is
-  pub rest-long : length (midOf r (length l - r) l) + r ≡ length old
-  rest-long = let e = ap length (mid-tail l r (omega (arith, same-long, w .room))) in omega (arith, e, same-long, w .room, length-drop r l)
-
   pub room-next : (y : List Interval) → length (flat (x ++ y)) ≤ length old → length (flat y) ≤ length (midOf r (length l - r) l)
   room-next y h =
       let e = ap length (mid-tail l r (omega (arith, same-long, w .room))) in

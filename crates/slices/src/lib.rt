@@ -32,14 +32,6 @@ pub fn greater(a: i64, b: i64) -> i64
     if le(a, b) { b } else { a }
 }
 
-// The number at place i.
-pub fn at(s: &[i64], i: usize) -> i64
-    requires { ⌜ i < length (now s) ⌝ }
-    ensures { λ r. ⌜ r ≡ getD (now (s .entry)) i (pos 0) ⌝ }
-{
-    s[i]
-}
-
 // Writes the interval [a, b]; returns how many numbers that are.
 pub fn put_one(out: &mut [i64], a: i64, b: i64) -> usize
     requires { ⌜ 2 ≤ length (now out) ⌝ }

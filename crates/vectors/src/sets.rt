@@ -6,7 +6,7 @@ use replay::pair;
 use replay::read_front;
 use replay::same;
 use replay::wide;
-use set_calls::Reply;
+use replies::Reply;
 
 // What the slices hold when they are lent; no case has these numbers.
 const OLD_WORK: i64 = -7777777;

@@ -20,9 +20,6 @@ pub record Is (z : ℤ) (a b : ℕ) : Type 0 where
 pub is-same : {x y : ℤ} {a b : ℕ} → Is x a b → Is y a b → x ≡ y
 is-same h k = eq-out (omega arith)
 
-pub is-to : {z : ℤ} {a b c d : ℕ} → Is z a b → a + d ≡ c + b → Is z c d
-is-to h e = omega arith
-
 pub is-lit : (n k : ℕ) → Is (pos n) (n + k) k
 is-lit n k = omega arith
 

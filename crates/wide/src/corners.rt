@@ -15,7 +15,7 @@ pub struct Ends {
 }
 
 // Whether a is at most b.
-pub fn ordered(a: Wide, b: Wide) -> bool
+fn ordered(a: Wide, b: Wide) -> bool
     ensures { λ r. ⌜ r ≡ leZ (held (a .hi) (a .lo)) (held (b .hi) (b .lo)) ⌝ }
 {
     let p = a.hi;
@@ -32,14 +32,14 @@ pub fn ordered(a: Wide, b: Wide) -> bool
 }
 
 // The smaller of two exact numbers.
-pub fn least(a: Wide, b: Wide) -> Wide
+fn least(a: Wide, b: Wide) -> Wide
     ensures { λ r. ⌜ held (r .hi) (r .lo) ≡ smaller (held (a .hi) (a .lo)) (held (b .hi) (b .lo)) ⌝ }
 {
     if ordered(a, b) { a } else { b }
 }
 
 // The larger of two exact numbers.
-pub fn greatest(a: Wide, b: Wide) -> Wide
+fn greatest(a: Wide, b: Wide) -> Wide
     ensures { λ r. ⌜ held (r .hi) (r .lo) ≡ larger (held (a .hi) (a .lo)) (held (b .hi) (b .lo)) ⌝ }
 {
     if ordered(a, b) { b } else { a }

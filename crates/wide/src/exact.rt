@@ -8,7 +8,7 @@ ghost use lib.IntN.{_*ℤ_};
 ghost use Rattle.wide.specs.Exact.{held};
 
 // How far w is from 2^63: the magnitude of the number whose word is w.
-pub fn size(w: u64) -> u64
+fn size(w: u64) -> u64
     ensures { λ r. ⌜ r ≡ w - 2 ^ 63 + (2 ^ 63 - w) ⌝ }
 {
     if w < 9223372036854775808 {
@@ -19,7 +19,7 @@ pub fn size(w: u64) -> u64
 }
 
 // m above the middle, 2^127 + 2^63.
-pub fn above(m: Wide) -> Wide
+fn above(m: Wide) -> Wide
     requires { ⌜ m .hi ≤ 2 ^ 62 ⌝ }
     ensures { λ r. ⌜ (r .hi ≡ m .hi + 2 ^ 63 + (m .lo + 2 ^ 63) / 2 ^ 64) × (r .lo ≡ (m .lo + 2 ^ 63) % 2 ^ 64) ⌝ }
 {
@@ -39,7 +39,7 @@ pub fn above(m: Wide) -> Wide
 }
 
 // m below the middle.
-pub fn below(m: Wide) -> Wide
+fn below(m: Wide) -> Wide
     requires { ⌜ m .hi ≤ 2 ^ 62 ⌝ }
     ensures { λ r. ⌜ (r .hi + m .hi + (r .lo + m .lo) / 2 ^ 64 ≡ 2 ^ 63) × ((r .lo + m .lo) % 2 ^ 64 ≡ 2 ^ 63) ⌝ }
 {

@@ -15,7 +15,7 @@ pub enum Range {
 }
 
 // Whether q - p is 2^64 - 1 or more.
-pub fn far_apart(p: Wide, q: Wide) -> bool
+fn far_apart(p: Wide, q: Wide) -> bool
     ensures { λ r. ⌜ r ≡ far (held (p .hi) (p .lo)) (held (q .hi) (q .lo)) ⌝ }
 {
     let h = p.hi;

@@ -17,8 +17,7 @@ rebuild-requires : tie.Need-rebuild-requires
 rebuild-requires c κs =
     let b = c .before .before in
     let a = b .before .before .before in
-    let h = join-asks (a .args .op) (a .args .left .now) (a .args .right .now) (a .pre .0) (a .pre .1) (b .all .ensures) in
-    search needs
+    join-asks (a .args .op) (a .args .left .now) (a .args .right .now) (a .pre .0) (a .pre .1) (b .all .ensures)
 
 same-length : tie.Need-same-length
 same-length c = search needs
@@ -27,7 +26,7 @@ returns : tie.Need-returns
 returns c =
     let b = c .before .before .before .before in
     let a = b .before .before .before in
-    cored (a .args .op) (a .args .left .now) (a .args .right .now) (a .pre .0) (a .pre .1) (b .all .ensures) (c .before .rebuild .ensures) (let e = b .before .before .flag-of .ensures in cc)
+    cored (a .args .op) (a .args .left .now) (a .args .right .now) (a .pre .0) (a .pre .1) (b .all .ensures) (c .before .rebuild .ensures) (b .before .before .flag-of .ensures)
 
 pub answer-spec : {M : Type 1} → statement M
 answer-spec = tie.close (tie.spec flag-of-requires all-requires rebuild-requires same-length returns)

@@ -17,10 +17,10 @@ use Rattle.cores.proofs.row.Statement.{statement}
 use Rattle.cores.proofs.row.Tie as tie
 
 abbrev Inv-loop : tie.InvT-loop
-Inv-loop op out₀ a b right n i₀ at₀ out i at = (n ≡ length right) × Proper (toZ w64 a) (toZ w64 b) × Filled (ruleOf op (toZ w64 a) (toZ w64 b)) (2 * factorOf op) right out₀ out i at
+Inv-loop op out₀ a b right n j₀ at₀ out j at = (n ≡ length right) × Proper (toZ w64 a) (toZ w64 b) × Filled (ruleOf op (toZ w64 a) (toZ w64 b)) (2 * factorOf op) right out₀ out j at
 
 abbrev μ-loop : tie.MeasureT-loop
-μ-loop op out₀ a b right n i₀ at₀ out i at = n - i
+μ-loop op out₀ a b right n j₀ at₀ out j at = n - j
 
 loop-holds : tie.Need-loop-holds Inv-loop μ-loop
 loop-holds c = (refl, rw (toZ-ofZ (c .fits .a), toZ-ofZ (c .fits .b)) (c .pre .1), fill-start _ (2 * factorOf (c .args .op)) _ _ (c .pre .0) (c .pre .2))
@@ -58,7 +58,7 @@ part-pair-end c = search needs
 pair-requires : tie.Need-pair-requires Inv-loop μ-loop
 pair-requires c κs =
     let a = c .before .before .before .before in
-    let h : a .loop .i + 2 ≤ length (a .before .args .right .now) = omega (arith, c .before .before .before .loop-test .taken, a .loop .inv .0) in
+    let h : a .loop .j + 2 ≤ length (a .before .args .right .now) = omega (arith, c .before .before .before .loop-test .taken, a .loop .inv .0) in
     (a .loop .inv .1, (rw (back _ (c .before .before .c .given), back _ (c .before .d .given)) (next-proper (a .loop .inv .2) h), next-room (a .loop .inv .2) h))
 
 add-at : tie.Need-add-at Inv-loop μ-loop
@@ -66,8 +66,8 @@ add-at c =
     let a = c .before .before .before .before .before .before in
     omega (arith, next-at (a .loop .inv .2) (omega (arith, c .before .before .before .before .before .loop-test .taken, a .loop .inv .0)) (c .before .pair .ensures), a .before .good)
 
-add-i : tie.Need-add-i Inv-loop μ-loop
-add-i c = search needs
+add-j : tie.Need-add-j Inv-loop μ-loop
+add-j c = search needs
 
 loop-less : tie.Need-loop-less Inv-loop μ-loop
 loop-less c = search needs
@@ -76,8 +76,8 @@ loop-again : tie.Need-loop-again Inv-loop μ-loop
 loop-again c =
     let b = c .before .before .before .before in
     let a = b .before .before in
-    let h : a .loop .i + 2 ≤ length (a .before .args .right .now) = omega (arith, b .before .loop-test .taken, a .loop .inv .0) in
-    let w = rw (back (end-at (a .before .args .right .now) (a .loop .i)) (b .c .given), back (end-at (a .before .args .right .now) (a .loop .i + 1)) (c .before .before .before .d .given)) at (c .before .pair .ensures) in
+    let h : a .loop .j + 2 ≤ length (a .before .args .right .now) = omega (arith, b .before .loop-test .taken, a .loop .inv .0) in
+    let w = rw (back (end-at (a .before .args .right .now) (a .loop .j)) (b .c .given), back (end-at (a .before .args .right .now) (a .loop .j + 1)) (c .before .before .before .d .given)) at (c .before .pair .ensures) in
     (refl, a .loop .inv .1, fill-next (a .loop .inv .2) h w (pair-few (a .before .args .op) w (a .loop .inv .1) (next-proper (a .loop .inv .2) h)))
 
 same-length : tie.Need-same-length Inv-loop μ-loop
@@ -107,7 +107,7 @@ row-spec =
     part-pair-end
     pair-requires
     add-at
-    add-i
+    add-j
     loop-less
     loop-again
     same-length

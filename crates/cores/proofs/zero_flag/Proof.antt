@@ -22,8 +22,7 @@ returns-2 c =
     let a = c .before .before .before .args in
     let l = intervals (a .left .now) in
     let r = intervals (a .right .now) in
-    let n : c .before .is-filled .result ≡ false = not-true _ (c .if2 .taken) in
-    let t : filled l ≡ false = cc in
+    let t : filled l ≡ false = sym (c .before .is-filled .ensures) ∙ not-true _ (c .if2 .taken) in
     sym (ap (λ (x : Bool). x || zeroFound l r) (c .before .before .if1 .left) ∙ and-left (contains (pos 0) r) t)
 
 contains-requires : tie.Need-contains-requires
@@ -34,10 +33,8 @@ returns-3 c =
     let a = c .before .before .before .before .args in
     let l = intervals (a .left .now) in
     let r = intervals (a .right .now) in
-    let n : c .before .before .is-filled .result ≡ true = not-false _ (c .before .if2 .left) in
-    let t : filled l ≡ true = cc in
-    let e : contains (pos 0) r ≡ (a .flag || zeroFound l r) = sym (ap (λ (x : Bool). x || zeroFound l r) (c .before .before .before .if1 .left) ∙ ap (λ (x : Bool). x && contains (pos 0) r) t) in
-    cc
+    let t : filled l ≡ true = sym (c .before .before .is-filled .ensures) ∙ not-false _ (c .before .if2 .left) in
+    c .contains .ensures ∙ sym (ap (λ (x : Bool). x || zeroFound l r) (c .before .before .before .if1 .left) ∙ ap (λ (x : Bool). x && contains (pos 0) r) t)
 
 pub zero-flag-spec : {M : Type 1} → statement M
 zero-flag-spec = tie.close (tie.spec returns is-filled-requires returns-2 contains-requires returns-3)

@@ -3,8 +3,10 @@ use mathlib.Core.Path.{sym, ap, _∙_}
 use Prim.Native.Nat.{_+_, ℕ, _<_}
 use mathlib.Core.Bool.{Bool}
 use Rattle.meaning.specs.Reading.{closed}
-use Rattle.forms.specs.Answer.{sizes, gotOf, headOf, registerOf}
-use Rattle.forms.proofs.Within.{start-le, byte-lt, rest-is, register-part, part-within}
+use Rattle.literals.specs.Answer.{registerOf}
+use Rattle.literals.proofs.Within.{byte-lt, rest-is, register-part}
+use Rattle.forms.specs.Answer.{sizes, gotOf, headOf}
+use Rattle.forms.proofs.Within.{start-le, part-within}
 use Rattle.forms.proofs.Forms.{arg-none, arg-form, size-literal, size-bad, form-none, form-register, form-no-register, form-one, form-one-bad, form-two-bad, form-no-space, form-two, form-second-bad}
 use borrow.Author.Needs.{needs}
 use native.Mathlib.Omega.{arith}
@@ -16,14 +18,14 @@ use Rattle.forms.proofs.+arg+form.Lts-arg as arg-lts
 use Rattle.forms.proofs.form.Reads as form
 use Rattle.forms.proofs.form.Kinds as form-kinds
 use Rattle.forms.proofs.+arg+form.Lts-form as form-lts
-use Rattle.forms.proofs.at.Reads as at-reads
+use Rattle.literals.proofs.at.Reads as at-reads
 use Rattle.forms.proofs.closed.Reads as closed-reads
 use Rattle.forms.proofs.either.Reads as either-reads
 use Rattle.forms.proofs.read_head.Reads as read-head-reads
-use Rattle.forms.proofs.read_literal.Reads as read-literal-reads
-use Rattle.forms.proofs.read_register.Reads as read-register-reads
+use Rattle.literals.proofs.read_literal.Reads as read-literal-reads
+use Rattle.literals.proofs.read_register.Reads as read-register-reads
 use Rattle.forms.proofs.start.Reads as start-reads
-use Rattle.forms.proofs.tail.Reads as tail-reads
+use Rattle.literals.proofs.tail.Reads as tail-reads
 use Rattle.forms.proofs.+arg+form.{statement}
 use Rattle.forms.proofs.+arg+form.Tie.{close}
 

@@ -9,16 +9,16 @@ use Rattle.meaning.proofs.Wrapping.{wrap-is, wrap-id}
 use Rattle.number.proofs.neg.Statement.{statement}
 use Rattle.number.proofs.neg.Tie as tie
 
-sub-result : tie.Need-sub-result
-sub-result c =
-    neg-ok (c .before .fits .x) (omega (zarith, num (c .before .fits .x), differ (c .before .args .x) MIN (c .if1 .left)))
-
 returns : tie.Need-returns
 unfolding negative
 returns c =
     let x = c .before .args .x in
     let e = same {y = MIN} (c .before .fits .x) (lit _ tt) (c .if1 .taken) in
     wrap-is _ _ 1 0 (rd-fits (c .before .fits .x)) (omega (zarith, e, num (c .before .fits .x), up-neg x, down-neg x))
+
+sub-result : tie.Need-sub-result
+sub-result c =
+    neg-ok (c .before .fits .x) (omega (zarith, num (c .before .fits .x), differ (c .before .args .x) MIN (c .if1 .left)))
 
 returns-2 : tie.Need-returns-2
 unfolding negative

@@ -13,6 +13,10 @@ use Rattle.number.proofs.Points.{add-one-is}
 use Rattle.number.proofs.next.Statement.{statement}
 use Rattle.number.proofs.next.Tie as tie
 
+-- the test of the code is the definition's
+below : (c : tie.Then1) → ltZ (c .before .args .x) MAX ≡ true
+below c = omega (zarith, num (c .before .fits .x))
+
 add-t4 : tie.Need-add-t4
 add-t4 c = let f = c .before .fits .x in add-ok f (lit (pos 1) tt) (omega (zarith, num f))
 
@@ -20,8 +24,7 @@ returns : tie.Need-returns
 unfolding point.next
 returns c =
     let f = c .before .fits .x in
-    let t : ltZ (c .before .args .x) MAX ≡ true = omega (zarith, num f) in
-    ap some (add-is f (lit (pos 1) tt) (add-t4 c) ∙ add-one-is (c .before .args .x)) ∙ if-yes _ _ t
+    ap some (add-is f (lit (pos 1) tt) (add-t4 c) ∙ add-one-is (c .before .args .x)) ∙ if-yes _ _ (below c)
 
 returns-2 : tie.Need-returns-2
 unfolding point.next

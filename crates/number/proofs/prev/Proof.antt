@@ -13,6 +13,10 @@ use Rattle.number.proofs.Points.{sub-one-is}
 use Rattle.number.proofs.prev.Statement.{statement}
 use Rattle.number.proofs.prev.Tie as tie
 
+-- the test of the code is the definition's
+above : (c : tie.Then1) → ltZ MIN (c .before .args .x) ≡ true
+above c = omega (zarith, num (c .before .fits .x))
+
 sub-t4 : tie.Need-sub-t4
 sub-t4 c = let f = c .before .fits .x in sub-ok f (lit (pos 1) tt) (omega (zarith, num f))
 
@@ -20,8 +24,7 @@ returns : tie.Need-returns
 unfolding point.prev
 returns c =
     let f = c .before .fits .x in
-    let t : ltZ MIN (c .before .args .x) ≡ true = omega (zarith, num f) in
-    ap some (sub-is f (lit (pos 1) tt) (sub-t4 c) ∙ sub-one-is (c .before .args .x)) ∙ if-yes _ _ t
+    ap some (sub-is f (lit (pos 1) tt) (sub-t4 c) ∙ sub-one-is (c .before .args .x)) ∙ if-yes _ _ (above c)
 
 returns-2 : tie.Need-returns-2
 unfolding point.prev

@@ -16,11 +16,6 @@ use Rattle.number.proofs.rem.Tie as tie
 minus : SFits w64 (negsuc 0)
 minus = lit _ tt
 
-rem-t7 : tie.Need-rem-t7
-rem-t7 c =
-    let s = c .before .before in
-    quot-ok (s .fits .x) (s .fits .y) (other {y = pos 0} (c .before .if1 .left)) (λ e. absurd (other {y = negsuc 0} (c .if2 .left) e))
-
 returns : tie.Need-returns
 unfolding remainder
 returns c =
@@ -35,6 +30,11 @@ returns-2 c =
     let d = differ (s .args .y) (pos 0) (c .before .if1 .left) in
     let t : eqZ (s .args .y) (pos 0) ≡ false = omega zarith in
     ap some (rem-minus (s .args .x) (same (s .fits .y) minus (c .if2 .taken))) ∙ if-no _ _ t
+
+rem-t7 : tie.Need-rem-t7
+rem-t7 c =
+    let s = c .before .before in
+    quot-ok (s .fits .x) (s .fits .y) (other {y = pos 0} (c .before .if1 .left)) (λ e. absurd (other {y = negsuc 0} (c .if2 .left) e))
 
 returns-3 : tie.Need-returns-3
 unfolding remainder

@@ -1,5 +1,5 @@
 -- What is written so far, and the walk over what is left, is the whole walk.
-use mathlib.Core.Path.{_≡_, refl, sym, _∙_}
+use mathlib.Core.Path.{_≡_, refl, _∙_}
 use Prim.Native.Nat.{_+_, _-_}
 use native.Mathlib.Omega.{arith}
 use lib.ListN.{length}
@@ -8,7 +8,7 @@ use Rattle.meaning.proofs.Machine.{back}
 use Rattle.sorting.proofs.Steps.{end-at}
 use Rattle.sets.proofs.Bridge.{set-valid}
 use borrow.Author.Needs.{needs}
-use Rattle.sets.proofs.Cross.{Crossing, Turn, crossing-start, cross-pair-l, cross-pair-r, crossing-left-out, crossing-left, crossing-right-out, crossing-right, crossing-end-l, crossing-end-r}
+use Rattle.sets.proofs.Cross.{Crossing, Turn, crossing-start, cross-pair-l, cross-pair-r, turn-left-out, turn-left, turn-right-out, turn-right, crossing-end-l, crossing-end-r}
 use Rattle.sets.proofs.meet.Statement.{statement}
 use Rattle.sets.proofs.meet.Tie as tie
 
@@ -100,12 +100,8 @@ loop-less c = search needs
 loop-again : tie.Need-loop-again Inv-loop μ-loop
 loop-again c =
     let x = c .before .before .before .before .before .before in
-    let a = x .before .before .before .before .before .before .before .before in
-    let t = turn x in
-    let f = rw (t .e-back, t .d-back) at (sym (x .le .ensures) ∙ c .before .before .before .before .before .if2 .taken) in
-    let g = rw (t .lo-back, t .e-back, t .lo-is) at (sym (c .before .before .before .before .le2 .ensures) ∙ c .before .before .before .if3 .taken) in
-    let z = rw (t .lo-back, t .e-back, t .lo-is) at (c .before .put-pair .ensures) in
-    (a .loop .inv .0, a .loop .inv .1, rw z (crossing-left-out (a .loop .inv .2) (t .some-l) (t .some-r) f g))
+    let h = x .before .before .before .before .before .before .before .before .loop .inv in
+    (h .0, h .1, turn-left-out (h .2) (turn x) (x .le .ensures) (c .before .before .before .before .before .if2 .taken) (c .before .before .before .before .le2 .ensures) (c .before .before .before .if3 .taken) (c .before .put-pair .ensures))
 
 add-i-2 : tie.Need-add-i-2 Inv-loop μ-loop
 add-i-2 c = search needs
@@ -116,11 +112,8 @@ loop-less-2 c = search needs
 loop-again-2 : tie.Need-loop-again-2 Inv-loop μ-loop
 loop-again-2 c =
     let x = c .before .before .before in
-    let a = x .before .before .before .before .before .before .before .before in
-    let t = turn x in
-    let f = rw (t .e-back, t .d-back) at (sym (x .le .ensures) ∙ c .before .before .if2 .taken) in
-    let g = rw (t .lo-back, t .e-back, t .lo-is) at (sym (c .before .le2 .ensures) ∙ c .if3 .left) in
-    (a .loop .inv .0, a .loop .inv .1, crossing-left (a .loop .inv .2) (t .some-l) (t .some-r) f g)
+    let h = x .before .before .before .before .before .before .before .before .loop .inv in
+    (h .0, h .1, turn-left (h .2) (turn x) (x .le .ensures) (c .before .before .if2 .taken) (c .before .le2 .ensures) (c .if3 .left))
 
 le-requires-3 : tie.Need-le-requires-3 Inv-loop μ-loop
 le-requires-3 c κs = search needs
@@ -140,12 +133,8 @@ loop-less-3 c = search needs
 loop-again-3 : tie.Need-loop-again-3 Inv-loop μ-loop
 loop-again-3 c =
     let x = c .before .before .before .before .before .before in
-    let a = x .before .before .before .before .before .before .before .before in
-    let t = turn x in
-    let f = rw (t .e-back, t .d-back) at (sym (x .le .ensures) ∙ c .before .before .before .before .before .if2 .left) in
-    let g = rw (t .lo-back, t .d-back, t .lo-is) at (sym (c .before .before .before .before .le3 .ensures) ∙ c .before .before .before .if4 .taken) in
-    let z = rw (t .lo-back, t .d-back, t .lo-is) at (c .before .put-pair2 .ensures) in
-    (a .loop .inv .0, a .loop .inv .1, rw z (crossing-right-out (a .loop .inv .2) (t .some-l) (t .some-r) f g))
+    let h = x .before .before .before .before .before .before .before .before .loop .inv in
+    (h .0, h .1, turn-right-out (h .2) (turn x) (x .le .ensures) (c .before .before .before .before .before .if2 .left) (c .before .before .before .before .le3 .ensures) (c .before .before .before .if4 .taken) (c .before .put-pair2 .ensures))
 
 add-j-2 : tie.Need-add-j-2 Inv-loop μ-loop
 add-j-2 c = search needs
@@ -156,11 +145,8 @@ loop-less-4 c = search needs
 loop-again-4 : tie.Need-loop-again-4 Inv-loop μ-loop
 loop-again-4 c =
     let x = c .before .before .before in
-    let a = x .before .before .before .before .before .before .before .before in
-    let t = turn x in
-    let f = rw (t .e-back, t .d-back) at (sym (x .le .ensures) ∙ c .before .before .if2 .left) in
-    let g = rw (t .lo-back, t .d-back, t .lo-is) at (sym (c .before .le3 .ensures) ∙ c .if4 .left) in
-    (a .loop .inv .0, a .loop .inv .1, crossing-right (a .loop .inv .2) (t .some-l) (t .some-r) f g)
+    let h = x .before .before .before .before .before .before .before .before .loop .inv in
+    (h .0, h .1, turn-right (h .2) (turn x) (x .le .ensures) (c .before .before .if2 .left) (c .before .le3 .ensures) (c .if4 .left))
 
 same-length-2 : tie.Need-same-length-2 Inv-loop μ-loop
 same-length-2 c = search needs

@@ -1,6 +1,6 @@
 -- The rule of the operation's name is asked.
 use Rattle.meaning.specs.SetCalls.{factor1, factor2}
-use Rattle.cores.proofs.Operations.{room-is, ruled}
+use Rattle.cores.proofs.Operations.{proper-read, room-is, ruled}
 use borrow.Author.Needs.{needs}
 use Rattle.cores.proofs.rule.pair.Statement.{statement}
 use Rattle.cores.proofs.rule.pair.Tie as tie
@@ -10,49 +10,49 @@ enum-told c = search needs
 
 neg-pair-requires : tie.Need-neg-pair-requires
 unfolding factor1
-neg-pair-requires c κs = let o = c .before .before .before in let h = room-is (c .before .enum-told .given .1) (o .pre .1 .1) in search needs
+neg-pair-requires c κs = let o = c .before .before .before in (proper-read (o .fits .a) (o .fits .b) (o .pre .0), room-is (c .before .enum-told .given .1) (o .pre .1 .1))
 
 enum-told-2 : tie.Need-enum-told-2
 enum-told-2 c = search needs
 
 abs-pair-requires : tie.Need-abs-pair-requires
 unfolding factor1
-abs-pair-requires c κs = let o = c .before .before .before in let h = room-is (c .before .enum-told2 .given .1) (o .pre .1 .1) in search needs
+abs-pair-requires c κs = let o = c .before .before .before in (proper-read (o .fits .a) (o .fits .b) (o .pre .0), room-is (c .before .enum-told2 .given .1) (o .pre .1 .1))
 
 enum-told-3 : tie.Need-enum-told-3
 enum-told-3 c = search needs
 
 add-pair-requires : tie.Need-add-pair-requires
 unfolding factor2
-add-pair-requires c κs = let o = c .before .before .before in let h = room-is (c .before .enum-told3 .given .1) (o .pre .1 .1) in search needs
+add-pair-requires c κs = let o = c .before .before .before in (proper-read (o .fits .a) (o .fits .b) (o .pre .0), (proper-read (o .fits .c) (o .fits .d) (o .pre .1 .0), room-is (c .before .enum-told3 .given .1) (o .pre .1 .1)))
 
 enum-told-4 : tie.Need-enum-told-4
 enum-told-4 c = search needs
 
 sub-pair-requires : tie.Need-sub-pair-requires
 unfolding factor2
-sub-pair-requires c κs = let o = c .before .before .before in let h = room-is (c .before .enum-told4 .given .1) (o .pre .1 .1) in search needs
+sub-pair-requires c κs = let o = c .before .before .before in (proper-read (o .fits .a) (o .fits .b) (o .pre .0), (proper-read (o .fits .c) (o .fits .d) (o .pre .1 .0), room-is (c .before .enum-told4 .given .1) (o .pre .1 .1)))
 
 enum-told-5 : tie.Need-enum-told-5
 enum-told-5 c = search needs
 
 mul-pair-requires : tie.Need-mul-pair-requires
 unfolding factor2
-mul-pair-requires c κs = let o = c .before .before .before in let h = room-is (c .before .enum-told5 .given .1) (o .pre .1 .1) in search needs
+mul-pair-requires c κs = let o = c .before .before .before in (proper-read (o .fits .a) (o .fits .b) (o .pre .0), (proper-read (o .fits .c) (o .fits .d) (o .pre .1 .0), room-is (c .before .enum-told5 .given .1) (o .pre .1 .1)))
 
 enum-told-6 : tie.Need-enum-told-6
 enum-told-6 c = search needs
 
 div-pair-requires : tie.Need-div-pair-requires
 unfolding factor2
-div-pair-requires c κs = let o = c .before .before .before in let h = room-is (c .before .enum-told6 .given .1) (o .pre .1 .1) in search needs
+div-pair-requires c κs = let o = c .before .before .before in (proper-read (o .fits .a) (o .fits .b) (o .pre .0), (proper-read (o .fits .c) (o .fits .d) (o .pre .1 .0), room-is (c .before .enum-told6 .given .1) (o .pre .1 .1)))
 
 enum-told-7 : tie.Need-enum-told-7
 enum-told-7 c = search needs
 
 rem-pair-requires : tie.Need-rem-pair-requires
 unfolding factor2
-rem-pair-requires c κs = let o = c .before .before .before in let h = room-is (c .before .enum-told7 .given .1) (o .pre .1 .1) in search needs
+rem-pair-requires c κs = let o = c .before .before .before in (proper-read (o .fits .a) (o .fits .b) (o .pre .0), (proper-read (o .fits .c) (o .fits .d) (o .pre .1 .0), room-is (c .before .enum-told7 .given .1) (o .pre .1 .1)))
 
 same-length : tie.Need-same-length
 same-length c = search needs

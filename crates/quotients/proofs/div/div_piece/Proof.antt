@@ -7,12 +7,14 @@ use mathlib.Core.List.{[], _++_}
 use Prim.Native.Nat.{_≤_}
 use mir.Facts.{toZ-ofZ}
 use Rattle.meaning.specs.Number.{MIN, within}
-use Rattle.meaning.specs.Interval.{only, divPlain}
+use Rattle.meaning.specs.Interval.{only}
+use Rattle.quotients.specs.Hull.{hull}
 use Rattle.meaning.specs.NumberIntervals.{flat}
 use Rattle.meaning.proofs.Machine.{lit, ltZ-is}
+use Rattle.meaning.proofs.Integers.{zarith}
 use Rattle.slices.proofs.Lent.{wrote-as, first-room, room-next, wrote-next, room-as, two-first, two-second, two-wrote}
 use Rattle.interval.proofs.Cuts.{told, both-is, MIN-fits, pair-is, room-two}
-use Rattle.quotients.proofs.DivRules.{AFTER, pastPart, plain-room, special-left, special-right, special-piece, plain-piece, plain-asked}
+use Rattle.quotients.proofs.DivRules.{AFTER, pastPart, hull-if-room, plain-room, start-nonzero, end-nonzero, past-hull, short-hull, special-piece, plain-piece, plain-hull}
 use borrow.Author.Needs.{needs}
 use Rattle.quotients.proofs.div.div_piece.Statement.{statement}
 use Rattle.quotients.proofs.div.div_piece.Tie as tie
@@ -55,10 +57,9 @@ put-hull-if-requires c κs =
     let h = p .before .before in
     let o = h .before .before in
     let L = c .less .ensures ∙ ltZ-is MIN-fits (o .fits .b) in
-    let B = toZ-ofZ (o .fits .b) in
     let T = toZ-ofZ (o .fits .t) in
     let F = toZ-ofZ (o .fits .f) in
-    (rw (B, T, F) (λ k. special-left (o .pre .0) (o .pre .1 .0) (o .pre .1 .1 .0) (special h) (sym L ∙ k)), room-as (λ i. cond (L i) (divPlain AFTER (B i) (T i) (F i)) []) (room-next (p .put-one .ensures) (pastPart (o .args .b) (o .args .t) (o .args .f)) (room-both h)))
+    (λ z. start-nonzero (o .pre .0) (o .pre .1 .0) (o .pre .1 .1 .0) (sym T ∙ z), (λ z. end-nonzero (o .pre .0) (o .pre .1 .0) (o .pre .1 .1 .0) (sym F ∙ z), hull-if-room _ _ _ _ _ _ _ _ L (room-next (p .put-one .ensures) (pastPart (o .args .b) (o .args .t) (o .args .f)) (room-both h))))
 
 add-i : tie.Need-add-i
 add-i c = search needs
@@ -86,12 +87,11 @@ put-hull-if-requires-2 c κs =
     let o = h .before .before in
     let L = q .before .less .ensures ∙ ltZ-is MIN-fits (o .fits .b) in
     let K = c .less2 .ensures ∙ ltZ-is (o .fits .t) (lit (negsuc 0) tt) in
-    let A = toZ-ofZ (o .fits .a) in
     let B = toZ-ofZ (o .fits .b) in
     let T = toZ-ofZ (o .fits .t) in
     let F = toZ-ofZ (o .fits .f) in
-    let w = wrote-next (p .put-one .ensures) (room-both h) (wrote-as (λ i. cond (L i) (divPlain AFTER (B i) (T i) (F i)) []) (q .put-hull-if .ensures)) in
-    (rw (A, B, T) (λ k. special-right (o .pre .0) (o .pre .1 .0) (o .pre .1 .1 .0) (special h) (sym K ∙ k)), room-as (λ i. cond (K i) (divPlain (A i) (B i) (T i) (negsuc 1)) []) (two-second _ _ (special-piece (o .pre .0) (o .pre .1 .0) (o .pre .1 .1 .0) (special h)) (o .pre .1 .1 .1) w))
+    let w = wrote-next (p .put-one .ensures) (room-both h) (wrote-as ((λ i. cond (L i) (hull AFTER (B i) (T i) (F i)) []) ∙ past-hull (o .pre .0) (o .pre .1 .0) (o .pre .1 .1 .0) (special h)) (q .put-hull-if .ensures)) in
+    (λ z. start-nonzero (o .pre .0) (o .pre .1 .0) (o .pre .1 .1 .0) (sym T ∙ z), (λ z. omega (zarith, z), hull-if-room _ _ _ _ _ _ _ _ K (two-second _ _ (special-piece (o .pre .0) (o .pre .1 .0) (o .pre .1 .1 .0) (special h)) (o .pre .1 .1 .1) w)))
 
 add-result : tie.Need-add-result
 add-result c = search needs
@@ -101,7 +101,7 @@ put-hull-requires c κs =
     let h = c .before in
     let o = h .before .before in
     let w = o .fits in
-    (rw (toZ-ofZ (w .a), toZ-ofZ (w .b), toZ-ofZ (w .t), toZ-ofZ (w .f)) (plain-asked (o .pre .0) (o .pre .1 .0) (o .pre .1 .1 .0) (plain h)), plain-room (o .args .a) (o .args .b) (o .args .t) (o .args .f) (room-as (plain-piece (o .pre .0) (o .pre .1 .0) (o .pre .1 .1 .0) (plain h)) (o .pre .1 .1 .1)))
+    (λ z. start-nonzero (o .pre .0) (o .pre .1 .0) (o .pre .1 .1 .0) (sym (toZ-ofZ (w .t)) ∙ z), (λ z. end-nonzero (o .pre .0) (o .pre .1 .0) (o .pre .1 .1 .0) (sym (toZ-ofZ (w .f)) ∙ z), plain-room (o .args .a) (o .args .b) (o .args .t) (o .args .f) (room-as (plain-piece (o .pre .0) (o .pre .1 .0) (o .pre .1 .1 .0) (plain h)) (o .pre .1 .1 .1))))
 
 same-length : tie.Need-same-length
 same-length c = search needs
@@ -119,8 +119,8 @@ returns c =
     let B = toZ-ofZ (o .fits .b) in
     let T = toZ-ofZ (o .fits .t) in
     let F = toZ-ofZ (o .fits .f) in
-    let w = wrote-next (p .put-one .ensures) (room-both h) (wrote-as (λ i. cond (L i) (divPlain AFTER (B i) (T i) (F i)) []) (q .put-hull-if .ensures)) in
-    two-wrote _ _ (special-piece (o .pre .0) (o .pre .1 .0) (o .pre .1 .1 .0) (special h)) (o .pre .1 .1 .1) w (wrote-as (λ i. cond (K i) (divPlain (A i) (B i) (T i) (negsuc 1)) []) (r .put-hull-if2 .ensures))
+    let w = wrote-next (p .put-one .ensures) (room-both h) (wrote-as ((λ i. cond (L i) (hull AFTER (B i) (T i) (F i)) []) ∙ past-hull (o .pre .0) (o .pre .1 .0) (o .pre .1 .1 .0) (special h)) (q .put-hull-if .ensures)) in
+    two-wrote _ _ (special-piece (o .pre .0) (o .pre .1 .0) (o .pre .1 .1 .0) (special h)) (o .pre .1 .1 .1) w (wrote-as ((λ i. cond (K i) (hull (A i) (B i) (T i) (negsuc 1)) []) ∙ short-hull (o .pre .0) (o .pre .1 .0) (o .pre .1 .1 .0) (special h)) (r .put-hull-if2 .ensures))
 
 same-length-2 : tie.Need-same-length-2
 same-length-2 c = search needs
@@ -130,7 +130,7 @@ returns-2 c =
     let h = c .before .before .before in
     let o = h .before .before in
     let w = o .fits in
-    wrote-as (pair-is divPlain (w .a) (w .b) (w .t) (w .f) ∙ plain-piece (o .pre .0) (o .pre .1 .0) (o .pre .1 .1 .0) (plain h)) (c .before .put-hull .ensures)
+    wrote-as (pair-is hull (w .a) (w .b) (w .t) (w .f) ∙ plain-hull (o .pre .0) (o .pre .1 .0) (o .pre .1 .1 .0) (plain h)) (c .before .put-hull .ensures)
 
 pub div-piece-spec : {M : Type 1} → statement M
 div-piece-spec =

@@ -1,27 +1,26 @@
--- In a plain case each corner quotient fits, so it is its own wrapped value.
+-- Each corner is the wrapped quotient of two ends.
 use mathlib.Core.Path.{sym, ap₂, _∙_}
 use mir.Facts.{toZ-ofZ}
 use Rattle.meaning.specs.Number.{smaller, larger}
 use Rattle.meaning.specs.Interval.{span, leastCorner, greatestCorner}
 use Rattle.meaning.proofs.Machine.{back}
-use Rattle.meaning.proofs.Quotients.{start-left, end-left, start-right, end-right, plain-nonzero, plain-fits}
 use Rattle.slices.proofs.Lent.{wrote-as}
-use Rattle.quotients.proofs.DivRules.{quot-of}
+use Rattle.quotients.specs.Hull.{hull, wrappedQuotient}
 use borrow.Author.Needs.{needs}
 use Rattle.quotients.proofs.quotient.put_hull.Statement.{statement}
 use Rattle.quotients.proofs.quotient.put_hull.Tie as tie
 
 quot-requires : tie.Need-quot-requires
-quot-requires c κs z = plain-nonzero (c .pre .0) (start-left (c .pre .0)) (start-right (c .pre .0)) (sym (toZ-ofZ (c .fits .t)) ∙ z)
+quot-requires c κs z = c .pre .0 (sym (toZ-ofZ (c .fits .t)) ∙ z)
 
 quot-requires-2 : tie.Need-quot-requires-2
-quot-requires-2 c κs z = let o = c .before in plain-nonzero (o .pre .0) (start-left (o .pre .0)) (end-right (o .pre .0)) (sym (toZ-ofZ (o .fits .f)) ∙ z)
+quot-requires-2 c κs z = let o = c .before in o .pre .1 .0 (sym (toZ-ofZ (o .fits .f)) ∙ z)
 
 quot-requires-3 : tie.Need-quot-requires-3
-quot-requires-3 c κs z = let o = c .before .before in plain-nonzero (o .pre .0) (end-left (o .pre .0)) (start-right (o .pre .0)) (sym (toZ-ofZ (o .fits .t)) ∙ z)
+quot-requires-3 c κs z = let o = c .before .before in o .pre .0 (sym (toZ-ofZ (o .fits .t)) ∙ z)
 
 quot-requires-4 : tie.Need-quot-requires-4
-quot-requires-4 c κs z = let o = c .before .before .before in plain-nonzero (o .pre .0) (end-left (o .pre .0)) (end-right (o .pre .0)) (sym (toZ-ofZ (o .fits .f)) ∙ z)
+quot-requires-4 c κs z = let o = c .before .before .before in o .pre .1 .0 (sym (toZ-ofZ (o .fits .f)) ∙ z)
 
 least-requires : tie.Need-least-requires
 least-requires c κs = search needs
@@ -36,7 +35,7 @@ same-length : tie.Need-same-length
 same-length c = search needs
 
 returns : tie.Need-returns
-unfolding leastCorner greatestCorner
+unfolding hull leastCorner greatestCorner
 returns c =
     let g = c .before .before .before in
     let l = g .before in
@@ -46,11 +45,10 @@ returns c =
     let a = b .before in
     let o = a .before in
     let w = o .fits in
-    let p = o .pre .0 in
-    let A = back (a .quot .result) (a .quot .ok) ∙ a .quot .ensures ∙ quot-of (w .s) (w .t) (plain-fits p (start-left p) (start-right p)) in
-    let B = back (b .quot2 .result) (b .quot2 .ok) ∙ b .quot2 .ensures ∙ quot-of (w .s) (w .f) (plain-fits p (start-left p) (end-right p)) in
-    let C = back (k .quot3 .result) (k .quot3 .ok) ∙ k .quot3 .ensures ∙ quot-of (w .e) (w .t) (plain-fits p (end-left p) (start-right p)) in
-    let D = back (d .quot4 .result) (d .quot4 .ok) ∙ d .quot4 .ensures ∙ quot-of (w .e) (w .f) (plain-fits p (end-left p) (end-right p)) in
+    let A = back (a .quot .result) (a .quot .ok) ∙ a .quot .ensures ∙ ap₂ wrappedQuotient (toZ-ofZ (w .s)) (toZ-ofZ (w .t)) in
+    let B = back (b .quot2 .result) (b .quot2 .ok) ∙ b .quot2 .ensures ∙ ap₂ wrappedQuotient (toZ-ofZ (w .s)) (toZ-ofZ (w .f)) in
+    let C = back (k .quot3 .result) (k .quot3 .ok) ∙ k .quot3 .ensures ∙ ap₂ wrappedQuotient (toZ-ofZ (w .e)) (toZ-ofZ (w .t)) in
+    let D = back (d .quot4 .result) (d .quot4 .ok) ∙ d .quot4 .ensures ∙ ap₂ wrappedQuotient (toZ-ofZ (w .e)) (toZ-ofZ (w .f)) in
     let P = back (l .least .result) (l .least .ok) ∙ l .least .ensures ∙ ap₂ smaller (ap₂ smaller A B) (ap₂ smaller C D) in
     let Q = back (g .greatest .result) (g .greatest .ok) ∙ g .greatest .ensures ∙ ap₂ larger (ap₂ larger A B) (ap₂ larger C D) in
     wrote-as (λ i. span (P i) (Q i)) (c .before .put-one .ensures)

@@ -1,0 +1,20 @@
+-- It is the run's answer as a struct, and the numbers are as the run leaves them.
+use borrow.Author.Needs.{needs}
+use mathlib.Core.Path.{_∙_}
+use Rattle.exports.proofs.sheets.juwenfo_run.Statement.{statement}
+use Rattle.exports.proofs.sheets.juwenfo_run.Tie as tie
+
+run-requires : tie.Need-run-requires
+run-requires c κs = search needs
+
+ran-requires : tie.Need-ran-requires
+ran-requires c κs = search needs
+
+same-length : tie.Need-same-length
+same-length c = search needs
+
+returns : tie.Need-returns
+returns c = let e = c .before .before .run .ensures in (c .ran .ensures ∙ e .0, e .1 .1)
+
+pub juwenfo-run-spec : {M : Type 1} → statement M
+juwenfo-run-spec = tie.close (tie.spec run-requires ran-requires same-length returns)

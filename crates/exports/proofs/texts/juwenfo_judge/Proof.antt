@@ -1,0 +1,17 @@
+-- It is the reader's answer as a struct.
+use borrow.Author.Needs.{needs}
+use mathlib.Core.Path.{_∙_}
+use Rattle.exports.proofs.texts.juwenfo_judge.Statement.{statement}
+use Rattle.exports.proofs.texts.juwenfo_judge.Tie as tie
+
+judge-text-requires : tie.Need-judge-text-requires
+judge-text-requires c κs = search needs
+
+judged-requires : tie.Need-judged-requires
+judged-requires c κs = search needs
+
+returns : tie.Need-returns
+returns c = c .judged .ensures ∙ c .before .judge-text .ensures .0
+
+pub juwenfo-judge-spec : {M : Type 1} → statement M
+juwenfo-judge-spec = tie.close (tie.spec judge-text-requires judged-requires returns)

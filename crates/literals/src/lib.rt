@@ -1,0 +1,215 @@
+// Literals and registers from their bytes (01, "Sheet"): digits, decimals, thousandths.
+// A reader says how many bytes it took. Past the end of a text stands byte 0, which is no byte of the grammar.
+ghost use mathlib.Core.Path.{_≡_};
+ghost use Prim.Native.Nat.{_+_, _-_, _*_, _≤_, min};
+ghost use lib.ListN.{getD, drop, take};
+ghost use Rattle.meaning.specs.Reading.{got, digits as digitsOf, needless as needlessIn, scale as scaleOf, signed, unsigned as unsignedAt, literal, register};
+ghost use Rattle.literals.specs.Capped.{cap, capped};
+ghost use Rattle.literals.specs.Answer.{registerOf, literalOf};
+
+// A register's number and how many bytes it takes.
+pub enum Register {
+    Is(usize, usize),
+    None,
+}
+
+// A literal's thousandths, whether they are beyond MIN..MAX (the number is 0 then), and how many bytes it takes.
+pub enum Literal {
+    Is(i64, bool, usize),
+    Bad,
+}
+
+// The byte at i, 0 past the end.
+pub fn at(text: &[u8], i: usize) -> u8
+    ensures { λ r. ⌜ r ≡ getD (now (text .entry)) i 0 ⌝ }
+{
+    if i < text.len() { text[i] } else { 0 }
+}
+
+// The part from k on, empty if k is past the end.
+pub fn tail(text: &[u8], k: usize) -> &[u8]
+    ensures { λ r. ⌜ now r ≡ drop k (now (text .entry)) ⌝ }
+{
+    if k <= text.len() {
+        &text[k..]
+    } else {
+        let n = text.len();
+        &text[n..]
+    }
+}
+
+// The first n bytes, or all if there are fewer.
+pub fn first(text: &[u8], n: usize) -> &[u8]
+    ensures { λ r. ⌜ now r ≡ take n (now (text .entry)) ⌝ }
+{
+    if n <= text.len() {
+        &text[..n]
+    } else {
+        &text[..]
+    }
+}
+
+// How many digits the text begins with.
+fn digits(text: &[u8]) -> usize
+    ensures { λ r. ⌜ r ≡ digitsOf (now (text .entry)) ⌝ }
+{
+    let mut i = 0;
+    while i < text.len() {
+        if text[i] < 48 {
+            return i;
+        }
+        if 57 < text[i] {
+            return i;
+        }
+        i += 1;
+    }
+    i
+}
+
+fn digit(b: u8) -> u8
+    ensures { λ r. ⌜ r ≡ b - 48 ⌝ }
+{
+    if 48 <= b { b - 48 } else { 0 }
+}
+
+fn wide(b: u8) -> u64
+    ensures { λ r. ⌜ r ≡ b ⌝ }
+{
+    b as u64
+}
+
+// One more digit, held at the cap: no greater number can be a literal's.
+fn step(v: u64, d: u8) -> u64
+    ensures { λ r. ⌜ r ≡ min cap (v * 10 + d) ⌝ }
+{
+    if v <= 922337203685477580 {
+        let w = v * 10 + wide(d);
+        if w <= 9223372036854775809 {
+            w
+        } else {
+            9223372036854775809
+        }
+    } else {
+        9223372036854775809
+    }
+}
+
+// The number that the digits write behind a, held at the cap.
+fn number(a: u64, text: &[u8]) -> u64
+    ensures { λ r. ⌜ r ≡ capped a (now (text .entry)) ⌝ }
+{
+    let mut v = a;
+    let mut i = 0;
+    while i < text.len() {
+        v = step(v, digit(text[i]));
+        i += 1;
+    }
+    v
+}
+
+const SCALE: [u64; 4] = [1000, 100, 10, 1];
+
+// Thousandths of a unit of the last of d decimals.
+fn scale(d: usize) -> u64
+    ensures { λ r. ⌜ r ≡ scaleOf d ⌝ }
+{
+    if d < 4 { SCALE[d] } else { 1 }
+}
+
+// v in thousandths, held at the cap.
+fn scaled(v: u64, d: usize) -> u64
+    ensures { λ r. ⌜ r ≡ min cap (v * scaleOf d) ⌝ }
+{
+    let m = scale(d);
+    if v <= 9223372036854775809 / m {
+        v * m
+    } else {
+        9223372036854775809
+    }
+}
+
+// The literal of a magnitude; 2^63 is in range only with a minus.
+fn finish(negated: bool, m: u64, n: usize) -> Literal
+    ensures { λ r. ⌜ r ≡ literalOf (got (signed negated m) n) ⌝ }
+{
+    if m < 9223372036854775808 {
+        let z = m as i64;
+        if negated {
+            Literal::Is(0 - z, false, n)
+        } else {
+            Literal::Is(z, false, n)
+        }
+    } else if m == 9223372036854775808 {
+        if negated {
+            Literal::Is(-9223372036854775808, false, n)
+        } else {
+            Literal::Is(0, true, n)
+        }
+    } else {
+        Literal::Is(0, true, n)
+    }
+}
+
+// The first of i digits is a needless 0.
+fn needless(text: &[u8], i: usize) -> bool
+    ensures { λ r. ⌜ r ≡ needlessIn (now (text .entry)) i ⌝ }
+{
+    if 1 < i { at(text, 0) == 48 } else { false }
+}
+
+// A literal without its sign, which took o bytes.
+fn unsigned(negated: bool, o: usize, text: &[u8]) -> Literal
+    requires { ⌜ o ≤ 1 ⌝ }
+    ensures { λ r. ⌜ r ≡ literalOf (unsignedAt negated o (now (text .entry)) (digitsOf (now (text .entry)))) ⌝ }
+{
+    let i = digits(text);
+    if i == 0 {
+        return Literal::Bad;
+    }
+    if needless(text, i) {
+        return Literal::Bad;
+    }
+    let v = number(0, first(text, i));
+    if at(text, i) != 46 {
+        return finish(negated, scaled(v, 0), o + i);
+    }
+    let t = tail(text, i + 1);
+    let d = digits(t);
+    if d == 0 {
+        return Literal::Bad;
+    }
+    if 3 < d {
+        return Literal::Bad;
+    }
+    finish(negated, scaled(number(v, first(t, d)), d), o + i + 1 + d)
+}
+
+// A literal: exact thousandths, however many digits.
+pub fn read_literal(text: &[u8]) -> Literal
+    ensures { λ r. ⌜ r ≡ literalOf (literal (now (text .entry))) ⌝ }
+{
+    if at(text, 0) == 45 {
+        unsigned(true, 1, tail(text, 1))
+    } else {
+        unsigned(false, 0, text)
+    }
+}
+
+// A register's number: digits without a needless leading 0, below 16.
+pub fn read_register(text: &[u8]) -> Register
+    ensures { λ r. ⌜ registerOf r ≡ register (now (text .entry)) ⌝ }
+{
+    let i = digits(text);
+    if i == 0 {
+        return Register::None;
+    }
+    if needless(text, i) {
+        return Register::None;
+    }
+    let v = number(0, first(text, i));
+    if v < 16 {
+        Register::Is(v as usize, i)
+    } else {
+        Register::None
+    }
+}

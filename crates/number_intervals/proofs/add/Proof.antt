@@ -1,0 +1,25 @@
+-- What all calls of two sets with work do, for its own operation.
+use Rattle.meaning.specs.Number as point
+use Rattle.meaning.proofs.Demand2Calls.{demand2-calls}
+use Rattle.number_intervals.proofs.Right.{just2}
+use borrow.Author.Needs.{needs}
+use Rattle.number_intervals.proofs.add.Statement.{statement}
+use Rattle.number_intervals.proofs.add.Tie as tie
+
+joined-requires : tie.Need-joined-requires
+joined-requires c κs = search needs
+
+same-length : tie.Need-same-length
+same-length c = search needs
+
+same-length-2 : tie.Need-same-length-2
+same-length-2 c = search needs
+
+returns : tie.Need-returns
+returns c =
+    let a = c .before .before .before .before .before .args in
+    let h = c .before .before .joined .ensures in
+    (h .0, just2 point.add (a .left .now) (a .flag) (a .right .now) (a .out .now) (a .work .now) (h .0 .0) (h .0 .1) (h .1) (demand2-calls .add-only))
+
+pub add-spec : {M : Type 1} → statement M
+add-spec = tie.close (tie.spec joined-requires same-length same-length-2 returns)

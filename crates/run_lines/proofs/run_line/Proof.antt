@@ -1,0 +1,108 @@
+-- `run_lines::run_line` meets its contract: one case for each kind of line.
+use mathlib.Core.Path.{_≡_, sym, ap, _∙_}
+use mir.Facts.{toZ-ofZ}
+use Rattle.meaning.specs.Number.{within}
+use Rattle.meaning.proofs.Machine.{rd, fit}
+use Rattle.point_forms.specs.declared.Num.the-variants as num
+use native.Mathlib.Omega.{arith}
+use Rattle.run_lines.proofs.Lines.{refused-halts, in-there, in-steps, hold-there, hold-steps, put-there, put-goes, put-halts}
+use borrow.Author.Needs.{needs}
+use Rattle.run_lines.proofs.run_line.Statement.{statement}
+use Rattle.run_lines.proofs.run_line.Tie as tie
+
+read-line-requires : tie.Need-read-line-requires
+read-line-requires c κs = search needs
+
+enum-known-r : tie.Need-enum-known-r
+enum-known-r c = search needs
+
+mul-x : tie.Need-mul-x
+mul-x c = omega (arith, in-there (c .before .before .before .before .before .args .lent .now) (c .before .before .before .before .before .args .state .now) (c .before .before .before .before .before .args .text .now) (c .before .before .before .read-line .result) (c .before .before .before .read-line .ensures) (c .before .r .given .1))
+
+element-copy-out-x : tie.Need-element-copy-out-x
+element-copy-out-x c = in-there (c .before .before .before .before .before .args .lent .now) (c .before .before .before .before .before .args .state .now) (c .before .before .before .before .before .args .text .now) (c .before .before .before .read-line .result) (c .before .before .before .read-line .ensures) (c .before .r .given .1)
+
+within-requires : tie.Need-within-requires
+within-requires c κs = search needs
+
+take-requires : tie.Need-take-requires
+take-requires c κs = in-there (c .before .before .before .before .before .before .before .before .args .lent .now) (c .before .before .before .before .before .before .before .before .args .state .now) (c .before .before .before .before .before .before .before .before .args .text .now) (c .before .before .before .before .before .before .read-line .result) (c .before .before .before .before .before .before .read-line .ensures) (c .before .before .before .before .r .given .1)
+
+go-if-requires : tie.Need-go-if-requires
+go-if-requires c κs = search needs
+
+enum-known-r-2 : tie.Need-enum-known-r-2
+enum-known-r-2 c = search needs
+
+value-at-requires : tie.Need-value-at-requires
+value-at-requires c κs = search needs
+
+enum-known-z : tie.Need-enum-known-z
+enum-known-z c = search needs
+
+take-requires-2 : tie.Need-take-requires-2
+take-requires-2 c κs = put-there (c .before .before .before .before .before .before .before .before .before .before .before .args .lent .now) (c .before .before .before .before .before .before .before .before .before .before .before .args .state .now) (c .before .before .before .before .before .before .before .before .before .before .before .args .text .now) (c .before .before .before .before .before .before .before .before .before .read-line .result) (c .before .before .before .before .before .before .before .before .before .read-line .ensures) (c .before .before .before .before .before .before .before .r2 .given .1)
+
+enum-known-k : tie.Need-enum-known-k
+enum-known-k c = search needs
+
+enum-known-r-3 : tie.Need-enum-known-r-3
+enum-known-r-3 c = search needs
+
+mul-within : tie.Need-mul-within
+mul-within c = omega (arith, hold-there (c .before .before .before .before .before .args .lent .now) (c .before .before .before .before .before .args .state .now) (c .before .before .before .before .before .args .text .now) (c .before .before .before .read-line .result) (c .before .before .before .read-line .ensures) (c .before .r3 .given .1))
+
+element-copy-out-within : tie.Need-element-copy-out-within
+element-copy-out-within c = hold-there (c .before .before .before .before .before .args .lent .now) (c .before .before .before .before .before .args .state .now) (c .before .before .before .before .before .args .text .now) (c .before .before .before .read-line .result) (c .before .before .before .read-line .ensures) (c .before .r3 .given .1)
+
+within-requires-2 : tie.Need-within-requires-2
+within-requires-2 c κs = search needs
+
+go-if-requires-2 : tie.Need-go-if-requires-2
+go-if-requires-2 c κs = search needs
+
+enum-known-k-2 : tie.Need-enum-known-k-2
+enum-known-k-2 c = search needs
+
+returns : tie.Need-returns
+returns c = let el : rd (c .before .before .before .before .before .before .r .given .0 .1 .0) ≡ c .before .before .before .before .before .before .r .given .0 .1 .0 = search needs in let eh : rd (c .before .before .before .before .before .before .r .given .0 .1 .1 .0) ≡ c .before .before .before .before .before .before .r .given .0 .1 .1 .0 = search needs in let ex = toZ-ofZ (fit _ (c .before .before .before .before .x .given)) in in-steps (c .before .before .before .before .before .before .before .before .before .before .args .lent .now) (c .before .before .before .before .before .before .before .before .before .before .args .state .now) (c .before .before .before .before .before .before .before .before .before .before .args .text .now) (c .before .before .before .before .before .before .before .before .read-line .result) (c .before .before .before .before .before .before .before .before .read-line .ensures) (c .before .before .before .before .before .before .r .given .1) ex (c .before .before .before .within .ensures ∙ (λ i. within (el i) (ex i) (eh i))) (c .before .take .ensures) (c .go-if .ensures)
+
+returns-2 : tie.Need-returns-2
+returns-2 c = let e : rd (c .before .before .before .z .given .0 .0) ≡ c .before .before .before .z .given .0 .0 = search needs in put-goes (c .before .before .before .before .before .before .before .before .before .before .before .before .args .lent .now) (c .before .before .before .before .before .before .before .before .before .before .before .before .args .state .now) (c .before .before .before .before .before .before .before .before .before .before .before .before .args .text .now) (c .before .before .before .before .before .before .before .before .before .before .read-line .result) (c .before .before .before .before .before .before .before .before .before .before .read-line .ensures) (c .before .before .before .before .before .before .before .before .r2 .given .1) (c .before .before .before .before .before .value-at .result) (c .before .before .before .before .before .value-at .ensures) (c .before .before .before .z .given .1 ∙ ap num.Is (sym e)) (c .take2 .ensures)
+
+returns-3 : tie.Need-returns-3
+returns-3 c = put-halts (c .before .before .before .before .before .before .before .before .before .before .args .lent .now) (c .before .before .before .before .before .before .before .before .before .before .args .state .now) (c .before .before .before .before .before .before .before .before .before .before .args .text .now) (c .before .before .before .before .before .before .before .before .read-line .result) (c .before .before .before .before .before .before .before .before .read-line .ensures) (c .before .before .before .before .before .before .r2 .given .1) (c .before .before .before .value-at .result) (c .before .before .before .value-at .ensures) (c .before .k .given .1)
+
+returns-4 : tie.Need-returns-4
+returns-4 c = let el : rd (c .before .before .before .before .r3 .given .0 .1 .0) ≡ c .before .before .before .before .r3 .given .0 .1 .0 = search needs in let eh : rd (c .before .before .before .before .r3 .given .0 .1 .1 .0) ≡ c .before .before .before .before .r3 .given .0 .1 .1 .0 = search needs in let ex = toZ-ofZ (fit _ (c .before .before .within-arg .given)) in hold-steps (c .before .before .before .before .before .before .before .before .args .lent .now) (c .before .before .before .before .before .before .before .before .args .state .now) (c .before .before .before .before .before .before .before .before .args .text .now) (c .before .before .before .before .before .before .read-line .result) (c .before .before .before .before .before .before .read-line .ensures) (c .before .before .before .before .r3 .given .1) (c .before .within2 .ensures ∙ (λ i. within (el i) (ex i) (eh i))) (c .go-if2 .ensures)
+
+returns-5 : tie.Need-returns-5
+returns-5 c = refused-halts (c .before .before .before .before .before .args .lent .now) (c .before .before .before .before .before .args .state .now) (c .before .before .before .before .before .args .text .now) (c .before .before .before .read-line .result) (c .before .before .before .read-line .ensures) (c .before .k2 .given .1)
+
+pub run-line-spec : {M : Type 1} → statement M
+run-line-spec =
+    tie.close
+    (tie.spec
+    read-line-requires
+    enum-known-r
+    mul-x
+    element-copy-out-x
+    within-requires
+    take-requires
+    go-if-requires
+    enum-known-r-2
+    value-at-requires
+    enum-known-z
+    take-requires-2
+    enum-known-k
+    enum-known-r-3
+    mul-within
+    element-copy-out-within
+    within-requires-2
+    go-if-requires-2
+    enum-known-k-2
+    returns
+    returns-2
+    returns-3
+    returns-4
+    returns-5)

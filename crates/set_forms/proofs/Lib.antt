@@ -1,0 +1,2 @@
+-- Laws of the set evaluator.
+pub mod Reading

@@ -1,0 +1,3 @@
+-- Laws of the lines.
+pub mod Giving
+pub mod Lines

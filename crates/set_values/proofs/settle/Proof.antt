@@ -1,0 +1,31 @@
+-- The tests are those of the definition, 9 before 20, and a fine answer is its ends and zeros behind them.
+use mathlib.Core.Path.{_∙_}
+use native.Mathlib.Omega.{arith}
+use Rattle.set_values.proofs.Settling.{settle-crowded, settle-flagged, settle-fine}
+use borrow.Author.Needs.{needs}
+use Rattle.set_values.proofs.settle.Statement.{statement}
+use Rattle.set_values.proofs.settle.Tie as tie
+
+stopped-requires : tie.Need-stopped-requires
+stopped-requires c κs = search needs
+
+returns : tie.Need-returns
+returns c = c .stopped .ensures ∙ settle-crowded (c .before .before .args .work .now) (c .before .before .args .count) (c .before .before .args .flag) (c .before .before .pre .0) (c .before .before .pre .1) (omega arith)
+
+stopped-requires-2 : tie.Need-stopped-requires-2
+stopped-requires-2 c κs = search needs
+
+returns-2 : tie.Need-returns-2
+returns-2 c = c .stopped2 .ensures ∙ settle-flagged (c .before .before .before .args .work .now) (c .before .before .before .args .count) (c .before .before .before .args .flag) (c .before .before .before .pre .0) (c .before .before .before .pre .1) (omega arith) (c .before .if2 .taken)
+
+slice-aggregate-copy-front : tie.Need-slice-aggregate-copy-front
+slice-aggregate-copy-front c = search needs
+
+copy-front-requires : tie.Need-copy-front-requires
+copy-front-requires c κs = search needs
+
+returns-3 : tie.Need-returns-3
+returns-3 c = settle-fine (c .before .before .before .before .before .args .work .now) (c .before .before .before .before .before .args .count) (c .before .before .before .before .before .args .flag) (c .before .before .before .before .before .pre .0) (c .before .before .before .before .before .pre .1) (omega arith) (c .before .before .before .if2 .left) (c .before .copy-front .ensures)
+
+pub settle-spec : {M : Type 1} → statement M
+settle-spec = tie.close (tie.spec stopped-requires returns stopped-requires-2 returns-2 slice-aggregate-copy-front copy-front-requires returns-3)

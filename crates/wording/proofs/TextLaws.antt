@@ -1,0 +1,97 @@
+-- How the texts of the listing are put together from their parts. Assumes nothing.
+use mathlib.Core.Path.{_≡_, refl, ap, _∙_}
+use mathlib.Core.Bool.{Bool, true, false, cond}
+use mathlib.Core.List.{List, [], _∷_, _++_, append-assoc}
+use Prim.Native.Nat.{ℕ, _+_, _≤_, _<_, _-_}
+use native.Mathlib.Omega.{arith}
+use borrow.Author.Tests.{lt-ltb, le-ltb}
+use lib.Dec.{ltb}
+use lib.IntN.{ℤ, pos}
+use lib.ListN.{length, getD, take, drop, length-append}
+use lib.Seq.{take-all}
+use Rattle.meaning.specs.Refusals.{zeroDivisor}
+use Rattle.meaning.specs.NumberIntervals.{intervals}
+use Rattle.meaning.specs.Listing.{decimal, decimalZ, troubleLine, passLine, intervalTexts, registerLine}
+use Rattle.wording.specs.Texts.{wordLine, troubleStart, intervalText}
+
+pub pass-line : (n : ℕ) → wordLine (112 ∷ 97 ∷ 115 ∷ 115 ∷ 32 ∷ []) n ≡ passLine n
+unfolding wordLine passLine
+pass-line n = refl
+
+pub refused-start : (k : ℕ) → k < 20 → (114 ∷ 101 ∷ 102 ∷ 117 ∷ 115 ∷ 101 ∷ 100 ∷ 32 ∷ []) ++ decimal k ≡ troubleStart k
+unfolding troubleStart
+refused-start k h = rw (lt-ltb k 20 h)
+
+pub stop-start : (k : ℕ) → 20 ≤ k → (115 ∷ 116 ∷ 111 ∷ 112 ∷ 32 ∷ []) ++ decimal k ≡ troubleStart k
+unfolding troubleStart
+stop-start k h = rw (le-ltb k 20 h)
+
+-- "stop" is the shorter word
+pub stop-room : (k : ℕ) → length ((115 ∷ 116 ∷ 111 ∷ 112 ∷ 32 ∷ []) ++ decimal k) ≤ length (troubleStart k)
+unfolding troubleStart
+stop-room k = by (ltb k zeroDivisor)
+  where
+    by : (t : Bool) →
+        length ((115 ∷ 116 ∷ 111 ∷ 112 ∷ 32 ∷ []) ++ decimal k)
+        ≤ length (cond t (114 ∷ 101 ∷ 102 ∷ 117 ∷ 115 ∷ 101 ∷ 100 ∷ 32 ∷ []) (115 ∷ 116 ∷ 111 ∷ 112 ∷ 32 ∷ []) ++ decimal k)
+    by true = omega arith
+    by false = omega arith
+
+pub trouble-line : (k l : ℕ) → troubleStart k ++ wordLine (32 ∷ []) l ≡ troubleLine k l
+unfolding troubleStart wordLine troubleLine
+trouble-line k l = by (ltb k zeroDivisor)
+  where
+    by : (t : Bool) →
+        (cond t (114 ∷ 101 ∷ 102 ∷ 117 ∷ 115 ∷ 101 ∷ 100 ∷ 32 ∷ []) (115 ∷ 116 ∷ 111 ∷ 112 ∷ 32 ∷ []) ++ decimal k) ++ (((32 ∷ []) ++ decimal l) ++ 10 ∷ [])
+        ≡ cond t (114 ∷ 101 ∷ 102 ∷ 117 ∷ 115 ∷ 101 ∷ 100 ∷ []) (115 ∷ 116 ∷ 111 ∷ 112 ∷ []) ++ (32 ∷ decimal k ++ (32 ∷ decimal l ++ 10 ∷ []))
+    by true = refl
+    by false = refl
+
+-- what is passed on as the machine's own copy of the ends is the same text
+pub interval-as : {a b c d : ℤ} → a ≡ c → b ≡ d → intervalText a b ≡ intervalText c d
+interval-as p q i = intervalText (p i) (q i)
+
+pub no-interval : (l : List ℤ) → length l < 2 → [] ≡ intervalTexts (intervals l)
+unfolding intervals intervalTexts
+no-interval [] h = refl
+no-interval (a ∷ []) h = refl
+no-interval (a ∷ b ∷ l) h = absurd (omega arith)
+
+-- the ends behind the first interval, in the checker's words
+pub first-interval : (l : List ℤ) → 2 ≤ length l →
+    intervalText (getD l 0 (pos 0)) (getD l 1 (pos 0)) ++ intervalTexts (intervals (take (length l - 2) (drop 2 l))) ≡ intervalTexts (intervals l)
+unfolding intervals intervalTexts intervalText
+first-interval [] h = absurd (omega arith)
+first-interval (a ∷ []) h = absurd (omega arith)
+first-interval (a ∷ b ∷ l) h =
+    ap (λ (t : List ℤ). (((32 ∷ []) ++ decimalZ a) ++ ((46 ∷ 46 ∷ []) ++ decimalZ b)) ++ intervalTexts (intervals t)) (take-all (length (a ∷ b ∷ l) - 2) l (omega arith))
+    ∙ simp append-assoc
+
+-- how many bytes an interval takes, alone and before a text
+pub interval-size : (a b : ℤ) → length (intervalText a b) ≡ 3 + (length (decimalZ a) + length (decimalZ b))
+unfolding intervalText
+interval-size a b = omega (arith, length-append ((32 ∷ []) ++ decimalZ a) ((46 ∷ 46 ∷ []) ++ decimalZ b))
+
+pub interval-room : (a b : ℤ) (n : ℕ) → 3 + (length (decimalZ a) + length (decimalZ b)) ≤ n → length (intervalText a b) ≤ n
+interval-room a b n h = omega (arith, interval-size a b)
+
+pub interval-before-room : (a b : ℤ) (x : List ℕ) (n : ℕ) → 3 + (length (decimalZ a) + length (decimalZ b)) + length x ≤ n → length (intervalText a b ++ x) ≤ n
+interval-before-room a b x n h = omega (arith, interval-size a b, length-append (intervalText a b) x)
+
+-- the size of a text with an interval at its front
+pub first-size : (l : List ℤ) → 2 ≤ length l →
+    3 + (length (decimalZ (getD l 0 (pos 0))) + length (decimalZ (getD l 1 (pos 0)))) + length (intervalTexts (intervals (take (length l - 2) (drop 2 l))))
+    ≡ length (intervalTexts (intervals l))
+first-size l h =
+    let a = getD l 0 (pos 0) in
+    let b = getD l 1 (pos 0) in
+    let x = intervalTexts (intervals (take (length l - 2) (drop 2 l))) in
+    omega (arith, interval-size a b, length-append (intervalText a b) x, ap length (first-interval l h))
+
+-- what is passed on as the machine's own copy of an end has the same size
+pub size-as : {a b : ℤ} → a ≡ b → length (decimalZ a) ≡ length (decimalZ b)
+size-as p i = length (decimalZ (p i))
+
+pub register-line : (r : ℕ) (l : List ℤ) → (((114 ∷ []) ++ decimal r) ++ intervalTexts (intervals l)) ++ 10 ∷ [] ≡ registerLine r (intervals l)
+unfolding registerLine
+register-line r l = simp append-assoc
