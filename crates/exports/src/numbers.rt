@@ -1,32 +1,11 @@
 // Numbers: each function is one call of the function of that name in `number`. A number is an i64, a count of thousandths.
+use answers::Maybe;
+use answers::for_number;
 ghost use mathlib.Core.Path.{_≡_};
 ghost use mathlib.Core.Bool.{not, _&&_, _||_};
 ghost use lib.Signed.{leZ, ltZ};
 ghost use Rattle.meaning.specs.Number as point;
-ghost use Rattle.number.specs.Maybe.{maybe as maybeOf};
-ghost use Rattle.exports.specs.Answers.{maybeFor};
-
-// A number and true, or 0 and false where there is none.
-#[repr(C)]
-pub struct Maybe {
-    pub number: i64,
-    pub there: bool,
-}
-
-fn plain(m: number::Maybe) -> Maybe
-    ensures { λ r. ⌜ r ≡ maybeFor (maybeOf m) ⌝ }
-{
-    match m {
-        number::Maybe::Is(x) => Maybe {
-            number: x,
-            there: true,
-        },
-        number::Maybe::Nothing => Maybe {
-            number: 0,
-            there: false,
-        },
-    }
-}
+ghost use Rattle.answers.specs.Answers.{maybeFor};
 
 // The negative of x; that of MIN is MIN.
 #[no_mangle]
@@ -73,7 +52,7 @@ pub extern "C" fn juwenfo_number_mul(x: i64, y: i64) -> i64
 pub extern "C" fn juwenfo_number_div(x: i64, y: i64) -> Maybe
     ensures { λ r. ⌜ r ≡ maybeFor (point.quotient x y) ⌝ }
 {
-    plain(number::div(x, y))
+    for_number(number::div(x, y))
 }
 
 // The remainder of x by y, with the sign of x; a divisor 0 has none.
@@ -81,7 +60,7 @@ pub extern "C" fn juwenfo_number_div(x: i64, y: i64) -> Maybe
 pub extern "C" fn juwenfo_number_rem(x: i64, y: i64) -> Maybe
     ensures { λ r. ⌜ r ≡ maybeFor (point.remainder x y) ⌝ }
 {
-    plain(number::rem(x, y))
+    for_number(number::rem(x, y))
 }
 
 // The number after x; there is none after MAX.
@@ -89,7 +68,7 @@ pub extern "C" fn juwenfo_number_rem(x: i64, y: i64) -> Maybe
 pub extern "C" fn juwenfo_number_next(x: i64) -> Maybe
     ensures { λ r. ⌜ r ≡ maybeFor (point.next x) ⌝ }
 {
-    plain(number::next(x))
+    for_number(number::next(x))
 }
 
 // The number before x; there is none before MIN.
@@ -97,7 +76,7 @@ pub extern "C" fn juwenfo_number_next(x: i64) -> Maybe
 pub extern "C" fn juwenfo_number_prev(x: i64) -> Maybe
     ensures { λ r. ⌜ r ≡ maybeFor (point.prev x) ⌝ }
 {
-    plain(number::prev(x))
+    for_number(number::prev(x))
 }
 
 // Nonzero is true.

@@ -2,10 +2,10 @@
 use number::MAX;
 use number::MIN;
 use number::add;
-use number::distance;
 use number::sub;
 use slices::put_one;
 use slices::put_two;
+use words::distance;
 ghost use mathlib.Core.Path.{_≡_};
 ghost use mathlib.Core.Bool.{cond};
 ghost use Prim.Native.Nat.{_+_, _-_, _^_, _≤_};

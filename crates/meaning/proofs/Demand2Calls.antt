@@ -10,11 +10,11 @@ use native.Mathlib.Omega.{arith}
 use borrow.Author.Tests.{eq-eqb, eqb-true, ltb-false}
 use Rattle.meaning.specs.Lists.{All, over}
 use Rattle.meaning.specs.Refusals.{notNormal, tooMany, tooShort, noRoom}
-use Rattle.meaning.specs.Number.{InRange, Op1, neg, abs, Op2, add, sub, point1}
+use Rattle.meaning.specs.Number.{InRange, Op1, neg, abs, not′, Op2, add, sub, mul, div, rem, le, lt, ne, and, or, point1}
 use Rattle.meaning.specs.NumberIntervals.{Set, _∈_, Normal, union, intersect, set1, set2, flag1, flag2, flat, intervals, normal}
 use Rattle.meaning.specs.SetCalls.{Returned, written, refused, refusal, refusal2, factor1, factor2, need1, need2, callReturns, callOut}
 use Rattle.meaning.specs.Demand2.{Only1, Only2}
-use Rattle.meaning.specs.Demand2Calls.{shown, Ends, Written, CallOnly1, CallOnly2, CallJust, CallsRight}
+use Rattle.meaning.specs.Demand2Calls.{shown, Ends, Stands, exact1, exact2, CallJust, CallsRight}
 use Rattle.meaning.proofs.Integers.{clash}
 use Rattle.meaning.proofs.Over.{length-over, take-over}
 use Rattle.meaning.proofs.Flat.{intervals-flat, flat-intervals, ends-normal}
@@ -72,7 +72,7 @@ module _ (k need : ℕ) (answer : Set) (flag : Bool) (out work : List ℤ) where
   shows : Wrote → shown (callReturns k need answer flag out work) (callOut k need answer flag out work) ≡ answer
   shows w = ap intervals (front w) ∙ intervals-flat answer
 
-  wrote-ends : Wrote → Normal answer → Written (callReturns k need answer flag out work) (callOut k need answer flag out work)
+  wrote-ends : Wrote → Normal answer → Stands (callReturns k need answer flag out work) (callOut k need answer flag out work)
   wrote-ends w p = record {
     fits = rw (w .returned, w .left, length-over (flat answer) out (w .room)) (w .room);
     ends = record { normal = subst Normal (sym (shows w)) p; whole = ap flat (shows w) ∙ sym (front w) };
@@ -93,10 +93,23 @@ module _ (o : Op1) (left : List ℤ) (flag : Bool) (out work : List ℤ) where
       ≡ set1 o (intervals left)
   shows1 w = shows (refusal left) (need1 (factor1 o) left) (set1 o (intervals left)) (flag1 o flag) out work w
 
-only1 : (o : Op1) → Only1 o → CallOnly1 o
-only1 o only left flag out work h e z m =
-    let w = wrote1 o left flag out work e in
-    only (intervals left) z (argument-ends left h (w .unrefused-args) .normal) (subst (λ (s : Set). z ∈ s) (shows1 o left flag out work w) m)
+-- the exact ones, by `demand2`
+only1 : (o : Op1) → exact1 o ≡ true → Only1 o
+only1 neg e = demand2 .neg-only
+only1 abs e = demand2 .abs-only
+only1 not′ e = clash e refl
+
+only2 : (o : Op2) → exact2 o ≡ true → Only2 o
+only2 add e = demand2 .add-only
+only2 sub e = demand2 .sub-only
+only2 mul e = clash e refl
+only2 div e = clash e refl
+only2 rem e = clash e refl
+only2 le e = clash e refl
+only2 lt e = clash e refl
+only2 ne e = clash e refl
+only2 and e = clash e refl
+only2 or e = clash e refl
 
 -- ---- two operands: `answer` is what the definitions give
 
@@ -114,14 +127,6 @@ module _ (need : ℕ) (answer : Set) (flag : Bool) (left right out work : List �
   shows2 : shown (callReturns (refusal2 left right) need answer flag out work) (callOut (refusal2 left right) need answer flag out work) ≡ answer
   shows2 = shows (refusal2 left right) need answer flag out work wrote2
 
-only2 : (o : Op2) → Only2 o → CallOnly2 o
-only2 o only left flag right out work h g e z m =
-    let need = need2 (factor2 o) left right in
-    let answer = set2 o (intervals left) (intervals right) in
-    let f = flag2 o flag (intervals left) (intervals right) in
-    only (intervals left) (intervals right) z (ends-left need answer f left right out work h g e .normal) (ends-right need answer f left right out work h g e .normal)
-    (subst (λ (s : Set). z ∈ s) (shows2 need answer f left right out work h g e) m)
-
 -- a call without work whose answer has just the members that `is` says
 module _ (answer : Set) (left right out : List ℤ) (h : All InRange left) (g : All InRange right)
     (e : callReturns (refusal2 left right) 0 answer false out [] .number ≡ 0) {is : ℤ → Type 0} where
@@ -138,7 +143,7 @@ module _ (answer : Set) (left right out : List ℤ) (h : All InRange left) (g : 
       record {
         left-ends = l;
         right-ends = r;
-        written = wrote-ends (refusal2 left right) 0 answer false out [] (wrote2 0 answer false left right out [] h g e) (p n k);
+        stands = wrote-ends (refusal2 left right) 0 answer false out [] (wrote2 0 answer false left right out [] h g e) (p n k);
         holds = λ z m. subst (λ (x : Set). z ∈ x) (sym s) (holds z n k m);
         only = λ z m. only z n k (subst (λ (x : Set). z ∈ x) s m);
         flagged = flagged (refusal2 left right) 0 answer false out [] (wrote2 0 answer false left right out [] h g e);
@@ -153,8 +158,9 @@ demand2-calls = record {
       let s = sym (shows1 o left flag out work w) in
       record {
         left-ends = l;
-        written = wrote-ends (refusal left) (need1 (factor1 o) left) (set1 o (intervals left)) (flag1 o flag) out work w (demand2 .normal1 o (intervals left) n);
+        stands = wrote-ends (refusal left) (need1 (factor1 o) left) (set1 o (intervals left)) (flag1 o flag) out work w (demand2 .normal1 o (intervals left) n);
         holds = λ x m. subst (λ (a : Set). point1 o x ∈ a) s (demand2 .holds1 o (intervals left) (point1 o x) n (record { member = x; member-in = m; gives = refl }));
+        only = λ x z m. only1 o x (intervals left) z n (subst (λ (a : Set). z ∈ a) (sym s) m);
         flagged = flagged (refusal left) (need1 (factor1 o) left) (set1 o (intervals left)) (flag1 o flag) out work w;
       };
   call2 = λ o left flag right out work h g e.
@@ -169,19 +175,16 @@ demand2-calls = record {
       record {
         left-ends = l;
         right-ends = r;
-        written = wrote-ends (refusal2 left right) need answer f out work (wrote2 need answer f left right out work h g e) (demand2 .normal2 o (intervals left) (intervals right) n k);
+        stands = wrote-ends (refusal2 left right) need answer f out work (wrote2 need answer f left right out work h g e) (demand2 .normal2 o (intervals left) (intervals right) n k);
         holds = λ x y z mx my r. subst (λ (a : Set). z ∈ a) s (demand2 .holds2 o (intervals left) (intervals right) z n k (record { left = x; right = y; left-in = mx; right-in = my; gives = r }));
+        only = λ x z m. only2 o x (intervals left) (intervals right) z n k (subst (λ (a : Set). z ∈ a) (sym s) m);
         flagged = flagged (refusal2 left right) need answer f out work (wrote2 need answer f left right out work h g e);
       };
-  neg-only = only1 neg (demand2 .neg-only);
-  abs-only = only1 abs (demand2 .abs-only);
-  add-only = only2 add (demand2 .add-only);
-  sub-only = only2 sub (demand2 .sub-only);
-  union-just = λ left right out h g e. just (union (intervals left) (intervals right)) left right out h g e
+  union-call = λ left right out h g e. just (union (intervals left) (intervals right)) left right out h g e
       (demand2 .union-normal (intervals left) (intervals right))
       (λ z n k. demand2 .union-holds (intervals left) (intervals right) z n k)
       (λ z n k. demand2 .union-only (intervals left) (intervals right) z n k);
-  intersect-just = λ left right out h g e. just (intersect (intervals left) (intervals right)) left right out h g e
+  intersect-call = λ left right out h g e. just (intersect (intervals left) (intervals right)) left right out h g e
       (demand2 .intersect-normal (intervals left) (intervals right))
       (λ z n k m. demand2 .intersect-holds (intervals left) (intervals right) z n k (m .0) (m .1))
       (λ z n k. demand2 .intersect-only (intervals left) (intervals right) z n k);

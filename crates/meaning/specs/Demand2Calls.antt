@@ -3,13 +3,13 @@
 use lib.IntN.{ℤ}
 use lib.ListN.{length, take}
 use mathlib.Core.Path.{_≡_}
-use mathlib.Core.Bool.{Bool, false}
+use mathlib.Core.Bool.{Bool, true, false}
 use mathlib.Core.Logic.{_⊎_}
 use mathlib.Core.List.{List}
 use mathlib.Core.Option.{Option, some}
 use Prim.Native.Nat.{_≤_}
 use Rattle.meaning.specs.Lists.{All}
-use Rattle.meaning.specs.Number.{InRange, Op1, neg, abs, Op2, add, sub, point1, point2}
+use Rattle.meaning.specs.Number.{InRange, Op1, neg, abs, not′, Op2, add, sub, mul, div, rem, le, lt, ne, and, or, point1, point2}
 use Rattle.meaning.specs.NumberIntervals.{Set, _∈_, Normal, flag1, flag2, flat, intervals}
 use Rattle.meaning.specs.SetCalls.{Returned, returns1, out1, returns2, out2, returnsUnion, outUnion, returnsIntersect, outIntersect}
 use Rattle.meaning.specs.Demand2.{Result1, Result2}
@@ -23,56 +23,72 @@ pub record Ends (l : List ℤ) : Type 0 where
   pub normal : Normal (intervals l)
   pub whole : flat (intervals l) ≡ l
 
--- what is written is the ends of a normal set, and stands in `out`
-pub record Written (r : Returned) (out : List ℤ) : Type 0 where
+-- what is written stands in `out`, and is the ends of a normal set
+pub record Stands (r : Returned) (out : List ℤ) : Type 0 where
   pub fits : r .count ≤ length out
   pub ends : Ends (take (r .count) out)
 
--- one operand: the argument and the answer are normal, the answer holds every point result, and the flag is the one of the definitions
+-- neg, abs, add and sub give nothing but point results
+abbrev pub exact1 : Op1 → Bool
+exact1 neg = true
+exact1 abs = true
+exact1 not′ = false
+
+abbrev pub exact2 : Op2 → Bool
+exact2 add = true
+exact2 sub = true
+exact2 mul = false
+exact2 div = false
+exact2 rem = false
+exact2 le = false
+exact2 lt = false
+exact2 ne = false
+exact2 and = false
+exact2 or = false
+
+-- one operand: the argument and the answer are normal, the answer holds every point result and, where the operation is exact, no other number; the flag is the one of the definitions
 pub record Call1 (o : Op1) (left : List ℤ) (flag : Bool) (r : Returned) (out : List ℤ) : Type 0 where
   pub left-ends : Ends left
-  pub written : Written r out
+  pub stands : Stands r out
   pub holds : (x : ℤ) → x ∈ intervals left → point1 o x ∈ shown r out
+  pub only : exact1 o ≡ true → (z : ℤ) → z ∈ shown r out → Result1 o (intervals left) z
   pub flagged : r .flag ≡ flag1 o flag
 
 -- two operands
 pub record Call2 (o : Op2) (left : List ℤ) (flag : Bool) (right : List ℤ) (r : Returned) (out : List ℤ) : Type 0 where
   pub left-ends : Ends left
   pub right-ends : Ends right
-  pub written : Written r out
+  pub stands : Stands r out
   pub holds : (x y z : ℤ) → x ∈ intervals left → y ∈ intervals right → point2 o x y ≡ some z → z ∈ shown r out
+  pub only : exact2 o ≡ true → (z : ℤ) → z ∈ shown r out → Result2 o (intervals left) (intervals right) z
   pub flagged : r .flag ≡ flag2 o flag (intervals left) (intervals right)
-
--- the answer holds nothing but point results
-abbrev pub CallOnly1 : Op1 → Type 0
-CallOnly1 o =
-    (left : List ℤ) (flag : Bool) (out work : List ℤ) → All InRange left → returns1 o left flag out work .number ≡ 0
-    → (z : ℤ) → z ∈ shown (returns1 o left flag out work) (out1 o left flag out work) → Result1 o (intervals left) z
-
-abbrev pub CallOnly2 : Op2 → Type 0
-CallOnly2 o =
-    (left : List ℤ) (flag : Bool) (right out work : List ℤ) → All InRange left → All InRange right → returns2 o left flag right out work .number ≡ 0
-    → (z : ℤ) → z ∈ shown (returns2 o left flag right out work) (out2 o left flag right out work) → Result2 o (intervals left) (intervals right) z
 
 -- union and intersect: the answer is normal, has just the members that `is` says, and no flag
 pub record CallJust (is : ℤ → Type 0) (left right : List ℤ) (r : Returned) (out : List ℤ) : Type 0 where
   pub left-ends : Ends left
   pub right-ends : Ends right
-  pub written : Written r out
+  pub stands : Stands r out
   pub holds : (z : ℤ) → is z → z ∈ shown r out
   pub only : (z : ℤ) → z ∈ shown r out → is z
   pub flagged : r .flag ≡ false
 
+-- where a call refuses nothing
+abbrev pub Right1 : Op1 → List ℤ → Bool → Returned → List ℤ → Type 0
+Right1 o left flag r out = r .number ≡ 0 → Call1 o left flag r out
+
+abbrev pub Right2 : Op2 → List ℤ → Bool → List ℤ → Returned → List ℤ → Type 0
+Right2 o left flag right r out = r .number ≡ 0 → Call2 o left flag right r out
+
+-- the members of either, or of both
+abbrev pub RightUnion : List ℤ → List ℤ → Returned → List ℤ → Type 0
+RightUnion left right r out = r .number ≡ 0 → CallJust (λ z. (z ∈ intervals left) ⊎ (z ∈ intervals right)) left right r out
+
+abbrev pub RightIntersect : List ℤ → List ℤ → Returned → List ℤ → Type 0
+RightIntersect left right r out = r .number ≡ 0 → CallJust (λ z. (z ∈ intervals left) × (z ∈ intervals right)) left right r out
+
 pub record CallsRight : Type 0 where
-  pub call1 : (o : Op1) (left : List ℤ) (flag : Bool) (out work : List ℤ) → All InRange left → returns1 o left flag out work .number ≡ 0
-      → Call1 o left flag (returns1 o left flag out work) (out1 o left flag out work)
-  pub call2 : (o : Op2) (left : List ℤ) (flag : Bool) (right out work : List ℤ) → All InRange left → All InRange right → returns2 o left flag right out work .number ≡ 0
-      → Call2 o left flag right (returns2 o left flag right out work) (out2 o left flag right out work)
-  pub neg-only : CallOnly1 neg
-  pub abs-only : CallOnly1 abs
-  pub add-only : CallOnly2 add
-  pub sub-only : CallOnly2 sub
-  pub union-just : (left right out : List ℤ) → All InRange left → All InRange right → returnsUnion left right out .number ≡ 0
-      → CallJust (λ z. (z ∈ intervals left) ⊎ (z ∈ intervals right)) left right (returnsUnion left right out) (outUnion left right out)
-  pub intersect-just : (left right out : List ℤ) → All InRange left → All InRange right → returnsIntersect left right out .number ≡ 0
-      → CallJust (λ z. (z ∈ intervals left) × (z ∈ intervals right)) left right (returnsIntersect left right out) (outIntersect left right out)
+  pub call1 : (o : Op1) (left : List ℤ) (flag : Bool) (out work : List ℤ) → All InRange left → Right1 o left flag (returns1 o left flag out work) (out1 o left flag out work)
+  pub call2 : (o : Op2) (left : List ℤ) (flag : Bool) (right out work : List ℤ) → All InRange left → All InRange right
+      → Right2 o left flag right (returns2 o left flag right out work) (out2 o left flag right out work)
+  pub union-call : (left right out : List ℤ) → All InRange left → All InRange right → RightUnion left right (returnsUnion left right out) (outUnion left right out)
+  pub intersect-call : (left right out : List ℤ) → All InRange left → All InRange right → RightIntersect left right (returnsIntersect left right out) (outIntersect left right out)

@@ -1,52 +1,29 @@
 // A number is an i64, a count of thousandths from MIN to MAX, and its point operations wrap at these ends. Special are MIN, which has no positive
 // counterpart and is its own negative and magnitude, and a divisor 0, which has no answer. Each call is equal to its definition in `meaning`, specs/Number.antt.
+pub use truth::and;
+pub use truth::as_bool;
+pub use truth::le;
+pub use truth::lt;
+pub use truth::ne;
+pub use truth::not;
+pub use truth::or;
+pub use words::MAX;
+pub use words::MIN;
+pub use words::ONE;
+use words::bits;
+use words::of_bits;
+use words::wrapping_mul;
 ghost use mathlib.Core.Path.{_≡_};
 ghost use mathlib.Core.Logic.{_≢_};
-ghost use mathlib.Core.Bool.{not, _&&_, _||_};
-ghost use Prim.Native.Nat.{_*_, _%_, _^_};
-ghost use lib.IntN.{pos, _-ℤ_, _*ℤ_};
-ghost use lib.Signed.{leZ, ltZ, quotZ, _≤ℤ_};
+ghost use lib.IntN.{pos};
+ghost use lib.Signed.{quotZ};
 ghost use Rattle.meaning.specs.Number as point;
-ghost use Rattle.meaning.proofs.Wrapping.{low};
 ghost use Rattle.number.specs.Maybe.{maybe};
-
-pub const MIN: i64 = -9223372036854775808;
-
-pub const MAX: i64 = 9223372036854775807;
-
-pub const ONE: i64 = 1000;
-
-// 2^63, the bits of MIN.
-const SIGN: u64 = 9223372036854775808;
 
 // A number, where there is one.
 pub enum Maybe {
     Is(i64),
     Nothing,
-}
-
-// The two's complement bits of x.
-fn bits(x: i64) -> u64
-    ensures { λ r. ⌜ r ≡ low x ⌝ }
-{
-    if x < 0 {
-        let up = x + MAX + 1;
-        (up as u64) + SIGN
-    } else {
-        x as u64
-    }
-}
-
-// The number with the bits w.
-pub fn of_bits(w: u64) -> i64
-    ensures { λ r. ⌜ r ≡ point.wrap (pos w) ⌝ }
-{
-    if w < SIGN {
-        w as i64
-    } else {
-        let above = (w - SIGN) as i64;
-        above + MIN
-    }
 }
 
 // The negative of x; that of MIN is MIN.
@@ -75,33 +52,6 @@ pub fn sub(x: i64, y: i64) -> i64
     ensures { λ r. ⌜ r ≡ point.difference x y ⌝ }
 {
     of_bits(std::num::wrapping_sub_u64(bits(x), bits(y)))
-}
-
-// How far e is above s, exact.
-pub fn distance(s: i64, e: i64) -> u64
-    requires { ⌜ s ≤ℤ e ⌝ }
-    ensures { λ r. ⌜ pos r ≡ e -ℤ s ⌝ }
-{
-    std::num::wrapping_sub_u64(bits(e), bits(s))
-}
-
-// a times b modulo 2^64, over half words: the product of the high halves falls out, and so do the high halves of the mixed products.
-pub fn wrapping_mul_u64(a: u64, b: u64) -> u64
-    ensures { λ r. ⌜ r ≡ a * b % 2 ^ 64 ⌝ }
-{
-    let a0 = a % 4294967296;
-    let a1 = a / 4294967296;
-    let b0 = b % 4294967296;
-    let b1 = b / 4294967296;
-    let mixed = std::num::wrapping_add_u64(a1 * b0, a0 * b1);
-    std::num::wrapping_add_u64(a0 * b0, mixed % 4294967296 * 4294967296)
-}
-
-// The product of x and y as integers, wrapped.
-pub fn wrapping_mul(x: i64, y: i64) -> i64
-    ensures { λ r. ⌜ r ≡ point.wrap (x *ℤ y) ⌝ }
-{
-    of_bits(wrapping_mul_u64(bits(x), bits(y)))
 }
 
 // x divided by ONE, toward 0.
@@ -172,60 +122,4 @@ pub fn prev(x: i64) -> Maybe
     } else {
         Maybe::Nothing
     }
-}
-
-// Nonzero is true.
-pub fn as_bool(x: i64) -> bool
-    ensures { λ r. ⌜ r ≡ point.truth x ⌝ }
-{
-    x != 0
-}
-
-// True is ONE, false 0.
-fn of_bool(b: bool) -> i64
-    ensures { λ r. ⌜ r ≡ point.ofBool b ⌝ }
-{
-    if b { ONE } else { 0 }
-}
-
-// ONE where x is 0, else 0.
-pub fn not(x: i64) -> i64
-    ensures { λ r. ⌜ r ≡ point.ofBool (not (point.truth x)) ⌝ }
-{
-    if as_bool(x) { 0 } else { ONE }
-}
-
-// ONE where neither is 0, else 0.
-pub fn and(x: i64, y: i64) -> i64
-    ensures { λ r. ⌜ r ≡ point.ofBool (point.truth x && point.truth y) ⌝ }
-{
-    if as_bool(x) { of_bool(as_bool(y)) } else { 0 }
-}
-
-// ONE where one of the two is not 0, else 0.
-pub fn or(x: i64, y: i64) -> i64
-    ensures { λ r. ⌜ r ≡ point.ofBool (point.truth x || point.truth y) ⌝ }
-{
-    if as_bool(x) { ONE } else { of_bool(as_bool(y)) }
-}
-
-// ONE where x is at most y, else 0.
-pub fn le(x: i64, y: i64) -> i64
-    ensures { λ r. ⌜ r ≡ point.ofBool (leZ x y) ⌝ }
-{
-    of_bool(x <= y)
-}
-
-// ONE where x is below y, else 0.
-pub fn lt(x: i64, y: i64) -> i64
-    ensures { λ r. ⌜ r ≡ point.ofBool (ltZ x y) ⌝ }
-{
-    of_bool(x < y)
-}
-
-// ONE where x is not y, else 0.
-pub fn ne(x: i64, y: i64) -> i64
-    ensures { λ r. ⌜ r ≡ point.ofBool (not (point.eqZ x y)) ⌝ }
-{
-    of_bool(x != y)
 }

@@ -14,8 +14,8 @@ ghost use mathlib.Core.Bool.{false};
 ghost use mathlib.Core.List.{[]};
 ghost use Rattle.meaning.specs.Number as point;
 ghost use Rattle.meaning.specs.SetCalls.{returns1, out1, work1, returns2, out2, work2, returnsUnion, outUnion, returnsIntersect, outIntersect};
-ghost use Rattle.replies.specs.Returning.{replyFor};
-ghost use Rattle.number_intervals.specs.Right.{Held1, Held2, Just1, Just2, JustEither, JustBoth};
+ghost use Rattle.meaning.specs.Demand2Calls.{Right1, Right2, RightUnion, RightIntersect};
+ghost use Rattle.replies.specs.Returning.{returned, replyFor};
 
 // The set of the negatives of all members.
 pub fn neg(left: &[i64], flag: bool, work: &mut [i64], out: &mut [i64]) -> Reply
@@ -23,7 +23,7 @@ pub fn neg(left: &[i64], flag: bool, work: &mut [i64], out: &mut [i64]) -> Reply
         ⌜ (r ≡ replyFor (returns1 point.neg (now (left .entry)) flag (now (out .entry)) (now (work .entry))))
         × (now (out .exit) ≡ out1 point.neg (now (left .entry)) flag (now (out .entry)) (now (work .entry)))
         × (now (work .exit) ≡ work1 point.neg (now (left .entry)) flag (now (out .entry)) (now (work .entry))) ⌝
-        ∗ ⌜ Just1 point.neg (now (left .entry)) flag r (now (out .exit)) ⌝ }
+        ∗ ⌜ Right1 point.neg (now (left .entry)) flag (returned r) (now (out .exit)) ⌝ }
 {
     let zero = [0i64; 2];
     joined(Op::Neg, left, flag, &zero, work, out)
@@ -35,7 +35,7 @@ pub fn abs(left: &[i64], flag: bool, work: &mut [i64], out: &mut [i64]) -> Reply
         ⌜ (r ≡ replyFor (returns1 point.abs (now (left .entry)) flag (now (out .entry)) (now (work .entry))))
         × (now (out .exit) ≡ out1 point.abs (now (left .entry)) flag (now (out .entry)) (now (work .entry)))
         × (now (work .exit) ≡ work1 point.abs (now (left .entry)) flag (now (out .entry)) (now (work .entry))) ⌝
-        ∗ ⌜ Just1 point.abs (now (left .entry)) flag r (now (out .exit)) ⌝ }
+        ∗ ⌜ Right1 point.abs (now (left .entry)) flag (returned r) (now (out .exit)) ⌝ }
 {
     let zero = [0i64; 2];
     joined(Op::Abs, left, flag, &zero, work, out)
@@ -47,7 +47,7 @@ pub fn add(left: &[i64], flag: bool, right: &[i64], work: &mut [i64], out: &mut 
         ⌜ (r ≡ replyFor (returns2 point.add (now (left .entry)) flag (now (right .entry)) (now (out .entry)) (now (work .entry))))
         × (now (out .exit) ≡ out2 point.add (now (left .entry)) flag (now (right .entry)) (now (out .entry)) (now (work .entry)))
         × (now (work .exit) ≡ work2 point.add (now (left .entry)) flag (now (right .entry)) (now (out .entry)) (now (work .entry))) ⌝
-        ∗ ⌜ Just2 point.add (now (left .entry)) flag (now (right .entry)) r (now (out .exit)) ⌝ }
+        ∗ ⌜ Right2 point.add (now (left .entry)) flag (now (right .entry)) (returned r) (now (out .exit)) ⌝ }
 {
     joined(Op::Add, left, flag, right, work, out)
 }
@@ -58,7 +58,7 @@ pub fn sub(left: &[i64], flag: bool, right: &[i64], work: &mut [i64], out: &mut 
         ⌜ (r ≡ replyFor (returns2 point.sub (now (left .entry)) flag (now (right .entry)) (now (out .entry)) (now (work .entry))))
         × (now (out .exit) ≡ out2 point.sub (now (left .entry)) flag (now (right .entry)) (now (out .entry)) (now (work .entry)))
         × (now (work .exit) ≡ work2 point.sub (now (left .entry)) flag (now (right .entry)) (now (out .entry)) (now (work .entry))) ⌝
-        ∗ ⌜ Just2 point.sub (now (left .entry)) flag (now (right .entry)) r (now (out .exit)) ⌝ }
+        ∗ ⌜ Right2 point.sub (now (left .entry)) flag (now (right .entry)) (returned r) (now (out .exit)) ⌝ }
 {
     joined(Op::Sub, left, flag, right, work, out)
 }
@@ -69,7 +69,7 @@ pub fn mul(left: &[i64], flag: bool, right: &[i64], work: &mut [i64], out: &mut 
         ⌜ (r ≡ replyFor (returns2 point.mul (now (left .entry)) flag (now (right .entry)) (now (out .entry)) (now (work .entry))))
         × (now (out .exit) ≡ out2 point.mul (now (left .entry)) flag (now (right .entry)) (now (out .entry)) (now (work .entry)))
         × (now (work .exit) ≡ work2 point.mul (now (left .entry)) flag (now (right .entry)) (now (out .entry)) (now (work .entry))) ⌝
-        ∗ ⌜ Held2 point.mul (now (left .entry)) flag (now (right .entry)) r (now (out .exit)) ⌝ }
+        ∗ ⌜ Right2 point.mul (now (left .entry)) flag (now (right .entry)) (returned r) (now (out .exit)) ⌝ }
 {
     joined(Op::Mul, left, flag, right, work, out)
 }
@@ -80,7 +80,7 @@ pub fn div(left: &[i64], flag: bool, right: &[i64], work: &mut [i64], out: &mut 
         ⌜ (r ≡ replyFor (returns2 point.div (now (left .entry)) flag (now (right .entry)) (now (out .entry)) (now (work .entry))))
         × (now (out .exit) ≡ out2 point.div (now (left .entry)) flag (now (right .entry)) (now (out .entry)) (now (work .entry)))
         × (now (work .exit) ≡ work2 point.div (now (left .entry)) flag (now (right .entry)) (now (out .entry)) (now (work .entry))) ⌝
-        ∗ ⌜ Held2 point.div (now (left .entry)) flag (now (right .entry)) r (now (out .exit)) ⌝ }
+        ∗ ⌜ Right2 point.div (now (left .entry)) flag (now (right .entry)) (returned r) (now (out .exit)) ⌝ }
 {
     joined(Op::Div, left, flag, right, work, out)
 }
@@ -91,7 +91,7 @@ pub fn rem(left: &[i64], flag: bool, right: &[i64], work: &mut [i64], out: &mut 
         ⌜ (r ≡ replyFor (returns2 point.rem (now (left .entry)) flag (now (right .entry)) (now (out .entry)) (now (work .entry))))
         × (now (out .exit) ≡ out2 point.rem (now (left .entry)) flag (now (right .entry)) (now (out .entry)) (now (work .entry)))
         × (now (work .exit) ≡ work2 point.rem (now (left .entry)) flag (now (right .entry)) (now (out .entry)) (now (work .entry))) ⌝
-        ∗ ⌜ Held2 point.rem (now (left .entry)) flag (now (right .entry)) r (now (out .exit)) ⌝ }
+        ∗ ⌜ Right2 point.rem (now (left .entry)) flag (now (right .entry)) (returned r) (now (out .exit)) ⌝ }
 {
     joined(Op::Rem, left, flag, right, work, out)
 }
@@ -101,7 +101,7 @@ pub fn not(left: &[i64], out: &mut [i64]) -> Reply
     ensures { λ r.
         ⌜ (r ≡ replyFor (returns1 point.not′ (now (left .entry)) false (now (out .entry)) []))
         × (now (out .exit) ≡ out1 point.not′ (now (left .entry)) false (now (out .entry)) []) ⌝
-        ∗ ⌜ Held1 point.not′ (now (left .entry)) false r (now (out .exit)) ⌝ }
+        ∗ ⌜ Right1 point.not′ (now (left .entry)) false (returned r) (now (out .exit)) ⌝ }
 {
     negated(left, out)
 }
@@ -111,7 +111,7 @@ pub fn and(left: &[i64], right: &[i64], out: &mut [i64]) -> Reply
     ensures { λ r.
         ⌜ (r ≡ replyFor (returns2 point.and (now (left .entry)) false (now (right .entry)) (now (out .entry)) []))
         × (now (out .exit) ≡ out2 point.and (now (left .entry)) false (now (right .entry)) (now (out .entry)) []) ⌝
-        ∗ ⌜ Held2 point.and (now (left .entry)) false (now (right .entry)) r (now (out .exit)) ⌝ }
+        ∗ ⌜ Right2 point.and (now (left .entry)) false (now (right .entry)) (returned r) (now (out .exit)) ⌝ }
 {
     related(Relation::And, left, right, out)
 }
@@ -121,7 +121,7 @@ pub fn or(left: &[i64], right: &[i64], out: &mut [i64]) -> Reply
     ensures { λ r.
         ⌜ (r ≡ replyFor (returns2 point.or (now (left .entry)) false (now (right .entry)) (now (out .entry)) []))
         × (now (out .exit) ≡ out2 point.or (now (left .entry)) false (now (right .entry)) (now (out .entry)) []) ⌝
-        ∗ ⌜ Held2 point.or (now (left .entry)) false (now (right .entry)) r (now (out .exit)) ⌝ }
+        ∗ ⌜ Right2 point.or (now (left .entry)) false (now (right .entry)) (returned r) (now (out .exit)) ⌝ }
 {
     related(Relation::Or, left, right, out)
 }
@@ -131,7 +131,7 @@ pub fn int_le(left: &[i64], right: &[i64], out: &mut [i64]) -> Reply
     ensures { λ r.
         ⌜ (r ≡ replyFor (returns2 point.le (now (left .entry)) false (now (right .entry)) (now (out .entry)) []))
         × (now (out .exit) ≡ out2 point.le (now (left .entry)) false (now (right .entry)) (now (out .entry)) []) ⌝
-        ∗ ⌜ Held2 point.le (now (left .entry)) false (now (right .entry)) r (now (out .exit)) ⌝ }
+        ∗ ⌜ Right2 point.le (now (left .entry)) false (now (right .entry)) (returned r) (now (out .exit)) ⌝ }
 {
     related(Relation::Le, left, right, out)
 }
@@ -141,7 +141,7 @@ pub fn int_lt(left: &[i64], right: &[i64], out: &mut [i64]) -> Reply
     ensures { λ r.
         ⌜ (r ≡ replyFor (returns2 point.lt (now (left .entry)) false (now (right .entry)) (now (out .entry)) []))
         × (now (out .exit) ≡ out2 point.lt (now (left .entry)) false (now (right .entry)) (now (out .entry)) []) ⌝
-        ∗ ⌜ Held2 point.lt (now (left .entry)) false (now (right .entry)) r (now (out .exit)) ⌝ }
+        ∗ ⌜ Right2 point.lt (now (left .entry)) false (now (right .entry)) (returned r) (now (out .exit)) ⌝ }
 {
     related(Relation::Lt, left, right, out)
 }
@@ -151,7 +151,7 @@ pub fn int_ne(left: &[i64], right: &[i64], out: &mut [i64]) -> Reply
     ensures { λ r.
         ⌜ (r ≡ replyFor (returns2 point.ne (now (left .entry)) false (now (right .entry)) (now (out .entry)) []))
         × (now (out .exit) ≡ out2 point.ne (now (left .entry)) false (now (right .entry)) (now (out .entry)) []) ⌝
-        ∗ ⌜ Held2 point.ne (now (left .entry)) false (now (right .entry)) r (now (out .exit)) ⌝ }
+        ∗ ⌜ Right2 point.ne (now (left .entry)) false (now (right .entry)) (returned r) (now (out .exit)) ⌝ }
 {
     related(Relation::Ne, left, right, out)
 }
@@ -160,7 +160,7 @@ pub fn int_ne(left: &[i64], right: &[i64], out: &mut [i64]) -> Reply
 pub fn union(left: &[i64], right: &[i64], out: &mut [i64]) -> Reply
     ensures { λ r.
         ⌜ (r ≡ replyFor (returnsUnion (now (left .entry)) (now (right .entry)) (now (out .entry)))) × (now (out .exit) ≡ outUnion (now (left .entry)) (now (right .entry)) (now (out .entry))) ⌝
-        ∗ ⌜ JustEither (now (left .entry)) (now (right .entry)) r (now (out .exit)) ⌝ }
+        ∗ ⌜ RightUnion (now (left .entry)) (now (right .entry)) (returned r) (now (out .exit)) ⌝ }
 {
     walked(Walk::Union, left, right, out)
 }
@@ -169,7 +169,7 @@ pub fn union(left: &[i64], right: &[i64], out: &mut [i64]) -> Reply
 pub fn intersect(left: &[i64], right: &[i64], out: &mut [i64]) -> Reply
     ensures { λ r.
         ⌜ (r ≡ replyFor (returnsIntersect (now (left .entry)) (now (right .entry)) (now (out .entry)))) × (now (out .exit) ≡ outIntersect (now (left .entry)) (now (right .entry)) (now (out .entry))) ⌝
-        ∗ ⌜ JustBoth (now (left .entry)) (now (right .entry)) r (now (out .exit)) ⌝ }
+        ∗ ⌜ RightIntersect (now (left .entry)) (now (right .entry)) (returned r) (now (out .exit)) ⌝ }
 {
     walked(Walk::Intersect, left, right, out)
 }

@@ -13,7 +13,7 @@ use Rattle.meaning.proofs.Machine.{num, fits-out}
 use Rattle.meaning.proofs.Wrapping.{wrap-parts, wrap-id}
 use Rattle.meaning.proofs.Spread.{spread-one}
 use Rattle.meaning.proofs.Products.{least-above, greatest-below, corners-ordered}
-use Rattle.number.proofs.Halves.{mul-mono}
+use Rattle.words.proofs.Halves.{mul-mono}
 use Rattle.products.specs.Narrow.{Narrow}
 
 abbrev Small : ℤ → Type 0

@@ -3,8 +3,8 @@
 use interval::pieces::holds;
 use interval::pieces::less;
 use number::MIN;
-use number::distance;
 use slices::put_one;
+use words::distance;
 ghost use mathlib.Core.Path.{_≡_};
 ghost use mathlib.Core.Bool.{false};
 ghost use Prim.Native.Nat.{_^_, _≤_, _<_, min, max};

@@ -40,7 +40,7 @@ pub fn number_in(b: &[u8; 8]) -> i64
 {
     let low = half(b[0], b[1], b[2], b[3]);
     let high = half(b[4], b[5], b[6], b[7]);
-    number::of_bits(low + 4294967296 * high)
+    words::of_bits(low + 4294967296 * high)
 }
 
 // The next number of the file; bytes past its end read as 0.

@@ -1,3 +1,4 @@
 pub mod Feeds
 pub mod Judging
+mod Places
 pub mod Walk

@@ -7,10 +7,17 @@ ghost use lib.ListN.{length, drop};
 ghost use Rattle.meaning.specs.Sheet.{registers};
 ghost use Rattle.meaning.specs.Text.{lineAt, cut, splitLines, lines, shaped as shapedText, nothingSeen, readLines, read};
 ghost use Rattle.sheet.specs.Feed.{feed};
+ghost use Rattle.sheet.specs.Place.{Placed};
 ghost use Rattle.sheet.specs.Answer.{readVerdict, judgementOf, judgementFor, isAct, admission, takenWith, inRegister};
 use lines::LineForm;
 use lines::read_line;
-use literals::first;
+
+// Where a line starts in its text, and how many bytes it has.
+#[repr(C)]
+pub struct Part {
+    pub start: usize,
+    pub count: usize,
+}
 
 // Fine with its count of lines, or refused with a number and a line.
 pub enum Judgement {
@@ -49,20 +56,33 @@ pub fn line_start(text: &[u8], k: usize) -> usize
     at
 }
 
-// The part of the text for line n, without its LF; empty for line 0 or a line that has no LF. Its bytes are promised, not the place where equal bytes stand.
+// Where line n stands in the text, without its LF; 0 and 0 for line 0 or a line that has no LF.
+pub fn place(text: &[u8], n: usize) -> Part
+    ensures { λ r. ⌜ Placed (now (text .entry)) n r ⌝ }
+{
+    if n == 0 {
+        return Part { start: 0, count: 0 };
+    }
+    let at = line_start(text, n - 1);
+    let e = line_end(text, at);
+    if e < text.len() {
+        Part {
+            start: at,
+            count: e - at,
+        }
+    } else {
+        Part { start: 0, count: 0 }
+    }
+}
+
+// The part of the text for line n, as `place` finds it; a contract can speak of its bytes alone.
 pub fn line(text: &[u8], n: usize) -> &[u8]
     ensures { λ r. ⌜ now r ≡ lineAt (now (text .entry)) n ⌝ }
 {
-    if n == 0 {
-        return first(text, 0);
-    }
-    let at = line_start(text, n - 1);
-    let end = line_end(text, at);
-    if end < text.len() {
-        &text[at..end]
-    } else {
-        first(text, 0)
-    }
+    let p = place(text, n);
+    let start = p.start;
+    let end = start + p.count;
+    &text[start..end]
 }
 
 // At most 256 lines, none over 120 bytes, and an LF at the end.

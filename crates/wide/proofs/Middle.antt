@@ -4,7 +4,7 @@ use Prim.Native.Nat.{ℕ, _+_, _-_, _*_, _/_, _%_, _^_, _≤_, _<_}
 use native.Mathlib.Nat.{div-add-mod'}
 use native.Mathlib.Omega.{arith}
 use lib.IntN.{ℤ, _*ℤ_}
-use Rattle.number.proofs.Halves.{mul-mono}
+use Rattle.words.proofs.Halves.{mul-mono}
 use Rattle.wide.proofs.Words.{Is, is-mul}
 
 -- the upper word of a product of two magnitudes

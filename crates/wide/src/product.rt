@@ -1,5 +1,5 @@
 // The whole product of two words.
-use number::wrapping_mul_u64;
+use words::wrapping_mul_u64;
 ghost use mathlib.Core.Path.{_≡_};
 ghost use Prim.Native.Nat.{_+_, _*_, _^_};
 

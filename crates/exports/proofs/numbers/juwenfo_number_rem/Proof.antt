@@ -2,7 +2,7 @@
 use mathlib.Core.Path.{_∙_, ap}
 use borrow.Author.Needs.{needs}
 use Rattle.meaning.specs.Number as point
-use Rattle.exports.specs.Answers.{maybeFor}
+use Rattle.answers.specs.Answers.{maybeFor}
 use Rattle.exports.proofs.Handed.{handed2}
 use Rattle.exports.proofs.numbers.juwenfo_number_rem.Statement.{statement}
 use Rattle.exports.proofs.numbers.juwenfo_number_rem.Tie as tie
@@ -10,11 +10,11 @@ use Rattle.exports.proofs.numbers.juwenfo_number_rem.Tie as tie
 rem-requires : tie.Need-rem-requires
 rem-requires c κs = search needs
 
-plain-requires : tie.Need-plain-requires
-plain-requires c κs = search needs
+for-number-requires : tie.Need-for-number-requires
+for-number-requires c κs = search needs
 
 returns : tie.Need-returns
-returns c = c .plain .ensures ∙ ap maybeFor (handed2 (c .before .before .fits .x) point.remainder (c .before .before .fits .y) (c .before .rem .ensures))
+returns c = c .for-number .ensures ∙ ap maybeFor (handed2 (c .before .before .fits .x) point.remainder (c .before .before .fits .y) (c .before .rem .ensures))
 
 pub juwenfo-number-rem-spec : {M : Type 1} → statement M
-juwenfo-number-rem-spec = tie.close (tie.spec rem-requires plain-requires returns)
+juwenfo-number-rem-spec = tie.close (tie.spec rem-requires for-number-requires returns)

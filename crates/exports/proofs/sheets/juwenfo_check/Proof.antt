@@ -7,8 +7,8 @@ use Rattle.exports.proofs.sheets.juwenfo_check.Tie as tie
 check-requires : tie.Need-check-requires
 check-requires c κs = search needs
 
-checked-requires : tie.Need-checked-requires
-checked-requires c κs = search needs
+for-check-requires : tie.Need-for-check-requires
+for-check-requires c κs = search needs
 
 same-length : tie.Need-same-length
 same-length c = search needs
@@ -17,7 +17,7 @@ same-length-2 : tie.Need-same-length-2
 same-length-2 c = search needs
 
 returns : tie.Need-returns
-returns c = let e = c .before .before .before .check .ensures in (c .checked .ensures ∙ e .0, e .1 .1)
+returns c = let e = c .before .before .before .check .ensures in (c .for-check .ensures ∙ e .0, e .1 .1)
 
 pub juwenfo-check-spec : {M : Type 1} → statement M
-juwenfo-check-spec = tie.close (tie.spec check-requires checked-requires same-length same-length-2 returns)
+juwenfo-check-spec = tie.close (tie.spec check-requires for-check-requires same-length same-length-2 returns)

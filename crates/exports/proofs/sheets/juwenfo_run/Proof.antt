@@ -7,14 +7,14 @@ use Rattle.exports.proofs.sheets.juwenfo_run.Tie as tie
 run-requires : tie.Need-run-requires
 run-requires c κs = search needs
 
-ran-requires : tie.Need-ran-requires
-ran-requires c κs = search needs
+for-run-requires : tie.Need-for-run-requires
+for-run-requires c κs = search needs
 
 same-length : tie.Need-same-length
 same-length c = search needs
 
 returns : tie.Need-returns
-returns c = let e = c .before .before .run .ensures in (c .ran .ensures ∙ e .0, e .1 .1)
+returns c = let e = c .before .before .run .ensures in (c .for-run .ensures ∙ e .0, e .1 .1)
 
 pub juwenfo-run-spec : {M : Type 1} → statement M
-juwenfo-run-spec = tie.close (tie.spec run-requires ran-requires same-length returns)
+juwenfo-run-spec = tie.close (tie.spec run-requires for-run-requires same-length returns)

@@ -7,11 +7,11 @@ use Rattle.exports.proofs.texts.juwenfo_judge.Tie as tie
 judge-text-requires : tie.Need-judge-text-requires
 judge-text-requires c κs = search needs
 
-judged-requires : tie.Need-judged-requires
-judged-requires c κs = search needs
+for-judgement-requires : tie.Need-for-judgement-requires
+for-judgement-requires c κs = search needs
 
 returns : tie.Need-returns
-returns c = c .judged .ensures ∙ c .before .judge-text .ensures .0
+returns c = c .for-judgement .ensures ∙ c .before .judge-text .ensures .0
 
 pub juwenfo-judge-spec : {M : Type 1} → statement M
-juwenfo-judge-spec = tie.close (tie.spec judge-text-requires judged-requires returns)
+juwenfo-judge-spec = tie.close (tie.spec judge-text-requires for-judgement-requires returns)

@@ -5,7 +5,7 @@ use borrow.Author.Needs.{needs}
 use mathlib.Core.Path.{_≡_, sym, ap, _∙_}
 use Prim.Native.Nat.{ℕ, _+_, _*_, _/_, _%_, _^_, _<_}
 use native.Mathlib.Omega.{arith}
-use Rattle.number.proofs.Halves.{Halves, halves, whole-product, columns}
+use Rattle.words.proofs.Halves.{Halves, halves, whole-product, columns}
 use Rattle.wide.proofs.product.full.Statement.{statement}
 use Rattle.wide.proofs.product.full.Tie as tie
 
