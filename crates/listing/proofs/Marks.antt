@@ -26,7 +26,7 @@ use Rattle.meaning.proofs.Work.{not-stop}
 use Rattle.lines.specs.Answer.{putOf, lineFrom}
 use Rattle.lines.specs.declared.LineForm.{LineForm}
 use Rattle.lines.specs.declared.LineForm.the-variants as line
-use Rattle.sheet.specs.Answer.{IsSheet}
+use Rattle.sheet.specs.Judging.{IsSheet}
 use Rattle.sheet.specs.Feed.{feed}
 use Rattle.sheet.proofs.Feeds.{end-lt}
 use Rattle.sheet.proofs.Walk.{Walk, Next, walk-start, walk-next, walk-done}

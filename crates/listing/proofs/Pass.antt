@@ -31,7 +31,7 @@ use mathlib.Core.List.{append-assoc}
 use Prim.Native.Nat.{_*_}
 use Rattle.listing.specs.Told.{Told}
 use Rattle.listing.specs.Texts.{markedLine, markedLines, Counted}
-use Rattle.sheet.specs.Answer.{IsSheet}
+use Rattle.sheet.specs.Judging.{IsSheet}
 use Rattle.listing.specs.Marks.{marksAfter}
 use Rattle.listing.proofs.Marks.{marks-listed}
 

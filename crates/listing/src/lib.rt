@@ -9,7 +9,7 @@ ghost use Rattle.meaning.specs.Sheet.{registers};
 ghost use Rattle.meaning.specs.Check.{slotSize, countIn, setsNeed};
 ghost use Rattle.meaning.specs.Listing.{passLine, listing};
 ghost use Rattle.decimal.specs.Written.{Written};
-ghost use Rattle.sheet.specs.Answer.{IsSheet};
+ghost use Rattle.sheet.specs.Judging.{IsSheet};
 ghost use Rattle.sheet_check.specs.Answer.{verdictOf};
 ghost use Rattle.meaning.specs.Reading.{readLine};
 ghost use Rattle.listing.specs.Marks.{markLine, marksAfter, Readable};

@@ -1,7 +1,7 @@
 -- Demand 3 for the calls (specs/Demand3Calls.antt): with slices that are long enough the calls are the check and the run of the text, a trouble is never on line 0, the 528 numbers show the sets,
 -- and the run's state fills the first 16 numbers. Assumes nothing.
 use lib.IntN.{ℤ, pos}
-use lib.ListN.{getD, set, length, length-set, length-replicate}
+use lib.ListN.{getD, set, length, take, length-set, length-replicate}
 use mathlib.Core.Path.{_≡_, refl, sym, ap, _∙_, subst}
 use mathlib.Core.Bool.{Bool, true, false, cond, _||_}
 use mathlib.Core.List.{List, [], _∷_}
@@ -23,7 +23,7 @@ use Rattle.meaning.specs.CheckSets.{stateOf}
 use Rattle.meaning.specs.Demand3.{SafeAt, Safe}
 use Rattle.meaning.specs.Demand3Calls.{fulfilled, Enough, CallsSafeAt, CallsSafe, CallsSafety}
 use Rattle.meaning.proofs.Work.{ok-same, done-same, bind-ok, guard-ok, work-keeps, judge-worked}
-use Rattle.meaning.proofs.Over.{over-first}
+use Rattle.meaning.proofs.Over.{take-over}
 use Rattle.meaning.proofs.Slots.{sets-shown}
 use Rattle.meaning.proofs.Demand3.{demand3}
 
@@ -147,20 +147,32 @@ demand3-calls t sets work lent n h k e i =
       count = s .count;
       each = λ m b. at (s .lines) m (s .each m b);
       whole = s .whole;
+      state = s .state;
+      last = s .last;
+      ends = run-verdict t lent k (s .ends);
+      leaves = front t (s .ends);
+      members = λ r b. shown t sets work h (p .1) r b (s .members .member r b);
     }
   where
+    front : (t : List ℕ) {m : ℕ} {s : List ℤ} → runText lent t ≡ worked m (done s) → take registers (runLent t lent) ≡ s
+    front t {m} {s} q = ap (take registers) (run-left t lent k q) ∙ take-is s (done-sized t lent q)
+      where
+        take-is : (s : List ℤ) → Sized s → take registers (over s lent) ≡ s
+        take-is s z = ap (λ (x : ℕ). take x (over s lent)) (sym z) ∙ take-over s lent
+
+    shown : (t : List ℕ) (sets work : List ℤ) → Enough sets work → {m : ℕ} {B : Bands} → checkText shipLimit t ≡ worked m (done B)
+        → (r : ℕ) → r < registers → {z : ℤ} → z ∈ getD (B .sets) r [] → z ∈ setIn (checkSets t sets work) r
+    shown t sets work g {m} {B} q r b {z} w =
+        subst (λ (x : List Interval). z ∈ x) (sym (ap (λ (l : List ℤ). setIn l r) (check-left t sets work g q) ∙ sets-shown t m B q sets r b)) w
+
     at : (ls : List Line) (m : ℕ) → SafeAt shipLimit lent t ls m → CallsSafeAt lent t ls m
     at ls m a =
         record {
           state = a .state;
+          sized = done-sized (cut t m) lent (a .runs);
           reaches = a .reaches;
           passes = λ sets′ work′ g. check-verdict (cut t m) sets′ work′ g (a .passes);
-          members =
-              λ sets′ work′ g r b. subst (λ (x : List Interval). getD (a .state) r (pos 0) ∈ x)
-              (sym (ap (λ (l : List ℤ). setIn l r) (check-left (cut t m) sets′ work′ g (a .passes)) ∙ sets-shown (cut t m) m (a .bands) (a .passes) sets′ r b)) (a .members .member r b);
+          members = λ sets′ work′ g r b. shown (cut t m) sets′ work′ g (a .passes) r b (a .members .member r b);
           runs = run-verdict (cut t m) lent k (a .runs);
-          leaves = λ r b. ap (λ (l : List ℤ). getD l r (pos 0)) (run-left (cut t m) lent k (a .runs)) ∙ first (a .state) r (done-sized (cut t m) lent (a .runs)) b;
+          leaves = front (cut t m) (a .runs);
         }
-      where
-        first : (s : List ℤ) (r : ℕ) → Sized s → r < registers → getD (over s lent) r (pos 0) ≡ getD s r (pos 0)
-        first s r q b = over-first s lent r (pos 0) (omega arith)

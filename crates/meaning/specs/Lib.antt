@@ -14,6 +14,7 @@ pub mod Check
 pub mod Listing
 pub mod Demand2
 pub mod Demand2Calls
+pub mod Contracts
 pub mod Demand3
 pub mod Demand3Calls
 pub mod ReadLaws

@@ -1,19 +1,21 @@
 -- A call returns and leaves what its equations say, and its code has read its arguments, so their numbers are from MIN to MAX: `demand2-calls` speaks of it. Assumes nothing.
 use lib.IntN.{ℤ}
 use mathlib.Core.Path.{_≡_, sym, ap, subst, _∙_}
-use mathlib.Core.Bool.{Bool}
+use mathlib.Core.Bool.{Bool, false}
 use mathlib.Core.Logic.{_⊎_}
-use mathlib.Core.List.{List}
+use mathlib.Core.List.{List, []}
+use Prim.Native.Nat.{ℕ}
 use Rattle.meaning.specs.Lists.{All}
 use Rattle.meaning.specs.Number.{InRange, Op1, Op2}
-use Rattle.meaning.specs.NumberIntervals.{_∈_, intervals}
-use Rattle.meaning.specs.SetCalls.{Returned, returns1, out1, returns2, out2, returnsUnion, outUnion, returnsIntersect, outIntersect}
-use Rattle.meaning.specs.Demand2Calls.{Call1, Call2, CallJust, Right1, Right2, RightUnion, RightIntersect}
+use Rattle.meaning.specs.NumberIntervals.{Set, _∈_, union, intersect, set1, set2, flag1, flag2, intervals}
+use Rattle.meaning.specs.SetCalls.{Returned, factor1, factor2, need1, need2, refusal, refusal2, callReturns}
+use Rattle.meaning.specs.Demand2Calls.{Call1, Call2, CallJust}
+use Rattle.meaning.specs.Contracts.{Works1, Works2, Gives1, Gives2, Unites, Meets}
 use Rattle.meaning.proofs.Members.{normal-proper}
 use Rattle.meaning.proofs.Flat.{even-flat, normal-even, flat-in-range}
 use Rattle.meaning.proofs.Demand2Calls.{demand2-calls}
 use Rattle.sets.specs.Sets.{Argument}
-use Rattle.replies.specs.Returning.{returned, replyFor}
+use Rattle.replies.specs.Returning.{returned, replyFor, Cased, Ended, Handed}
 use Rattle.replies.specs.declared.Reply.{Reply}
 use Rattle.replies.proofs.Said.{returned-reply}
 
@@ -26,27 +28,94 @@ carried : {y x : Returned} {a o : List ℤ} (P : Returned → List ℤ → Type 
 carried {x} {a} P p f n h =
     subst (λ (t : Returned). P t a) (sym p) (subst (λ (l : List ℤ). P x l) (sym f) (h (sym (ap (λ (t : Returned). t .number) p) ∙ n)))
 
-module _ (o : Op1) (left : List ℤ) (flag : Bool) (out work : List ℤ) {r : Reply} {a : List ℤ} where
-  pub right1 : r ≡ replyFor (returns1 o left flag out work) → a ≡ out1 o left flag out work → (returned r .number ≡ 0 → Argument left) → Right1 o left flag (returned r) a
-  right1 e f h n =
-      carried (λ t l. Call1 o left flag t l) (returned-reply _ _ _ _ _ _ e) f n (demand2-calls .call1 o left flag out work (ranged (h n)))
+cased : {r : Reply} {x : Returned} → r ≡ replyFor x → returned r ≡ x → Cased r
+cased e p = e ∙ sym (ap replyFor p)
 
--- two arguments
-abbrev Both : Reply → List ℤ → List ℤ → Type 0
-Both r left right = returned r .number ≡ 0 → Argument left × Argument right
+-- arguments that the code has read
+abbrev Read1 : Reply → List ℤ → Type 0
+Read1 r left = returned r .number ≡ 0 → Argument left
 
-module _ (o : Op2) (left : List ℤ) (flag : Bool) (right out work : List ℤ) {r : Reply} {a : List ℤ} where
-  pub right2 : r ≡ replyFor (returns2 o left flag right out work) → a ≡ out2 o left flag right out work → Both r left right → Right2 o left flag right (returned r) a
-  right2 e f h n =
-      carried (λ t l. Call2 o left flag right t l) (returned-reply _ _ _ _ _ _ e) f n (demand2-calls .call2 o left flag right out work (ranged (h n .0)) (ranged (h n .1)))
+abbrev Read2 : Reply → List ℤ → List ℤ → Type 0
+Read2 r left right = returned r .number ≡ 0 → Argument left × Argument right
+
+-- ---- with work
+
+module _ (o : Op1) (left : List ℤ) (flag : Bool) (out work : List ℤ) {r : Reply} {a w : List ℤ} where
+  pub works1 : Ended (refusal left) (need1 (factor1 o) left) (set1 o (intervals left)) (flag1 o flag) out work r a w → Read1 r left
+      → Works1 o left flag out work (returned r) a w × Cased r
+  works1 e h =
+      let p = returned-reply _ _ _ _ _ _ (e .0) in (
+        record {
+          returns = p;
+          writes = e .1;
+          clears = e .2;
+          right = λ n. carried (λ t l. Call1 o left flag t l) p (e .1) n (demand2-calls .call1 o left flag out work (ranged (h n)));
+        },
+        cased (e .0) p,
+      )
+
+module _ (o : Op2) (left : List ℤ) (flag : Bool) (right out work : List ℤ) {r : Reply} {a w : List ℤ} where
+  pub works2 : Ended (refusal2 left right) (need2 (factor2 o) left right) (set2 o (intervals left) (intervals right)) (flag2 o flag (intervals left) (intervals right)) out work r a w
+      → Read2 r left right → Works2 o left flag right out work (returned r) a w × Cased r
+  works2 e h =
+      let p = returned-reply _ _ _ _ _ _ (e .0) in (
+        record {
+          returns = p;
+          writes = e .1;
+          clears = e .2;
+          right = λ n. carried (λ t l. Call2 o left flag right t l) p (e .1) n (demand2-calls .call2 o left flag right out work (ranged (h n .0)) (ranged (h n .1)));
+        },
+        cased (e .0) p,
+      )
+
+-- ---- without work
+
+module _ (o : Op1) (left out : List ℤ) {r : Reply} {a : List ℤ} where
+  pub gives1 : Handed (refusal left) (need1 (factor1 o) left) (set1 o (intervals left)) (flag1 o false) out r a → Read1 r left → Gives1 o left out (returned r) a × Cased r
+  gives1 e h =
+      let p = returned-reply _ _ _ _ _ _ (e .0) in (
+        record {
+          returns = p;
+          writes = e .1;
+          right = λ n. carried (λ t l. Call1 o left false t l) p (e .1) n (demand2-calls .call1 o left false out [] (ranged (h n)));
+        },
+        cased (e .0) p,
+      )
+
+module _ (o : Op2) (left right out : List ℤ) {r : Reply} {a : List ℤ} where
+  pub gives2 : Handed (refusal2 left right) (need2 (factor2 o) left right) (set2 o (intervals left) (intervals right)) (flag2 o false (intervals left) (intervals right)) out r a
+      → Read2 r left right → Gives2 o left right out (returned r) a × Cased r
+  gives2 e h =
+      let p = returned-reply _ _ _ _ _ _ (e .0) in (
+        record {
+          returns = p;
+          writes = e .1;
+          right = λ n. carried (λ t l. Call2 o left false right t l) p (e .1) n (demand2-calls .call2 o left false right out [] (ranged (h n .0)) (ranged (h n .1)));
+        },
+        cased (e .0) p,
+      )
 
 module _ (left right out : List ℤ) {r : Reply} {a : List ℤ} where
-  pub right-union : r ≡ replyFor (returnsUnion left right out) → a ≡ outUnion left right out → Both r left right → RightUnion left right (returned r) a
-  right-union e f h n =
-      carried (λ t l. CallJust (λ z. (z ∈ intervals left) ⊎ (z ∈ intervals right)) left right t l) (returned-reply _ _ _ _ _ _ e) f n
-      (demand2-calls .union-call left right out (ranged (h n .0)) (ranged (h n .1)))
+  pub unites : Handed (refusal2 left right) 0 (union (intervals left) (intervals right)) false out r a → Read2 r left right → Unites left right out (returned r) a × Cased r
+  unites e h =
+      let p = returned-reply _ _ _ _ _ _ (e .0) in (
+        record {
+          returns = p;
+          writes = e .1;
+          right = λ n. carried (λ t l. CallJust (λ z. (z ∈ intervals left) ⊎ (z ∈ intervals right)) left right t l) p (e .1) n
+              (demand2-calls .union-call left right out (ranged (h n .0)) (ranged (h n .1)));
+        },
+        cased (e .0) p,
+      )
 
-  pub right-intersect : r ≡ replyFor (returnsIntersect left right out) → a ≡ outIntersect left right out → Both r left right → RightIntersect left right (returned r) a
-  right-intersect e f h n =
-      carried (λ t l. CallJust (λ z. (z ∈ intervals left) × (z ∈ intervals right)) left right t l) (returned-reply _ _ _ _ _ _ e) f n
-      (demand2-calls .intersect-call left right out (ranged (h n .0)) (ranged (h n .1)))
+  pub meets : Handed (refusal2 left right) 0 (intersect (intervals left) (intervals right)) false out r a → Read2 r left right → Meets left right out (returned r) a × Cased r
+  meets e h =
+      let p = returned-reply _ _ _ _ _ _ (e .0) in (
+        record {
+          returns = p;
+          writes = e .1;
+          right = λ n. carried (λ t l. CallJust (λ z. (z ∈ intervals left) × (z ∈ intervals right)) left right t l) p (e .1) n
+              (demand2-calls .intersect-call left right out (ranged (h n .0)) (ranged (h n .1)));
+        },
+        cased (e .0) p,
+      )

@@ -9,21 +9,14 @@ use set_calls::joined;
 use set_calls::negated;
 use set_calls::related;
 use set_calls::walked;
-ghost use mathlib.Core.Path.{_≡_};
-ghost use mathlib.Core.Bool.{false};
-ghost use mathlib.Core.List.{[]};
 ghost use Rattle.meaning.specs.Number as point;
-ghost use Rattle.meaning.specs.SetCalls.{returns1, out1, work1, returns2, out2, work2, returnsUnion, outUnion, returnsIntersect, outIntersect};
-ghost use Rattle.meaning.specs.Demand2Calls.{Right1, Right2, RightUnion, RightIntersect};
-ghost use Rattle.replies.specs.Returning.{returned, replyFor};
+ghost use Rattle.meaning.specs.Contracts.{Works1, Works2, Gives1, Gives2, Unites, Meets};
+ghost use Rattle.replies.specs.Returning.{returned, Cased};
 
 // The set of the negatives of all members.
 pub fn neg(left: &[i64], flag: bool, work: &mut [i64], out: &mut [i64]) -> Reply
-    ensures { λ r.
-        ⌜ (r ≡ replyFor (returns1 point.neg (now (left .entry)) flag (now (out .entry)) (now (work .entry))))
-        × (now (out .exit) ≡ out1 point.neg (now (left .entry)) flag (now (out .entry)) (now (work .entry)))
-        × (now (work .exit) ≡ work1 point.neg (now (left .entry)) flag (now (out .entry)) (now (work .entry))) ⌝
-        ∗ ⌜ Right1 point.neg (now (left .entry)) flag (returned r) (now (out .exit)) ⌝ }
+    ensures { λ r. ⌜ Works1 point.neg (now (left .entry)) flag (now (out .entry)) (now (work .entry)) (returned r) (now (out .exit)) (now (work .exit)) ⌝ }
+    ensures { λ r. ⌜ Cased r ⌝ }
 {
     let zero = [0i64; 2];
     joined(Op::Neg, left, flag, &zero, work, out)
@@ -31,11 +24,8 @@ pub fn neg(left: &[i64], flag: bool, work: &mut [i64], out: &mut [i64]) -> Reply
 
 // The set of the magnitudes of all members.
 pub fn abs(left: &[i64], flag: bool, work: &mut [i64], out: &mut [i64]) -> Reply
-    ensures { λ r.
-        ⌜ (r ≡ replyFor (returns1 point.abs (now (left .entry)) flag (now (out .entry)) (now (work .entry))))
-        × (now (out .exit) ≡ out1 point.abs (now (left .entry)) flag (now (out .entry)) (now (work .entry)))
-        × (now (work .exit) ≡ work1 point.abs (now (left .entry)) flag (now (out .entry)) (now (work .entry))) ⌝
-        ∗ ⌜ Right1 point.abs (now (left .entry)) flag (returned r) (now (out .exit)) ⌝ }
+    ensures { λ r. ⌜ Works1 point.abs (now (left .entry)) flag (now (out .entry)) (now (work .entry)) (returned r) (now (out .exit)) (now (work .exit)) ⌝ }
+    ensures { λ r. ⌜ Cased r ⌝ }
 {
     let zero = [0i64; 2];
     joined(Op::Abs, left, flag, &zero, work, out)
@@ -43,133 +33,104 @@ pub fn abs(left: &[i64], flag: bool, work: &mut [i64], out: &mut [i64]) -> Reply
 
 // The set of the sums of all members.
 pub fn add(left: &[i64], flag: bool, right: &[i64], work: &mut [i64], out: &mut [i64]) -> Reply
-    ensures { λ r.
-        ⌜ (r ≡ replyFor (returns2 point.add (now (left .entry)) flag (now (right .entry)) (now (out .entry)) (now (work .entry))))
-        × (now (out .exit) ≡ out2 point.add (now (left .entry)) flag (now (right .entry)) (now (out .entry)) (now (work .entry)))
-        × (now (work .exit) ≡ work2 point.add (now (left .entry)) flag (now (right .entry)) (now (out .entry)) (now (work .entry))) ⌝
-        ∗ ⌜ Right2 point.add (now (left .entry)) flag (now (right .entry)) (returned r) (now (out .exit)) ⌝ }
+    ensures { λ r. ⌜ Works2 point.add (now (left .entry)) flag (now (right .entry)) (now (out .entry)) (now (work .entry)) (returned r) (now (out .exit)) (now (work .exit)) ⌝ }
+    ensures { λ r. ⌜ Cased r ⌝ }
 {
     joined(Op::Add, left, flag, right, work, out)
 }
 
 // The set of the differences of all members.
 pub fn sub(left: &[i64], flag: bool, right: &[i64], work: &mut [i64], out: &mut [i64]) -> Reply
-    ensures { λ r.
-        ⌜ (r ≡ replyFor (returns2 point.sub (now (left .entry)) flag (now (right .entry)) (now (out .entry)) (now (work .entry))))
-        × (now (out .exit) ≡ out2 point.sub (now (left .entry)) flag (now (right .entry)) (now (out .entry)) (now (work .entry)))
-        × (now (work .exit) ≡ work2 point.sub (now (left .entry)) flag (now (right .entry)) (now (out .entry)) (now (work .entry))) ⌝
-        ∗ ⌜ Right2 point.sub (now (left .entry)) flag (now (right .entry)) (returned r) (now (out .exit)) ⌝ }
+    ensures { λ r. ⌜ Works2 point.sub (now (left .entry)) flag (now (right .entry)) (now (out .entry)) (now (work .entry)) (returned r) (now (out .exit)) (now (work .exit)) ⌝ }
+    ensures { λ r. ⌜ Cased r ⌝ }
 {
     joined(Op::Sub, left, flag, right, work, out)
 }
 
 // A set that holds the products of all members.
 pub fn mul(left: &[i64], flag: bool, right: &[i64], work: &mut [i64], out: &mut [i64]) -> Reply
-    ensures { λ r.
-        ⌜ (r ≡ replyFor (returns2 point.mul (now (left .entry)) flag (now (right .entry)) (now (out .entry)) (now (work .entry))))
-        × (now (out .exit) ≡ out2 point.mul (now (left .entry)) flag (now (right .entry)) (now (out .entry)) (now (work .entry)))
-        × (now (work .exit) ≡ work2 point.mul (now (left .entry)) flag (now (right .entry)) (now (out .entry)) (now (work .entry))) ⌝
-        ∗ ⌜ Right2 point.mul (now (left .entry)) flag (now (right .entry)) (returned r) (now (out .exit)) ⌝ }
+    ensures { λ r. ⌜ Works2 point.mul (now (left .entry)) flag (now (right .entry)) (now (out .entry)) (now (work .entry)) (returned r) (now (out .exit)) (now (work .exit)) ⌝ }
+    ensures { λ r. ⌜ Cased r ⌝ }
 {
     joined(Op::Mul, left, flag, right, work, out)
 }
 
 // A set that holds the quotients of all members; a zero in the divisor sets the flag, if the left set has a member.
 pub fn div(left: &[i64], flag: bool, right: &[i64], work: &mut [i64], out: &mut [i64]) -> Reply
-    ensures { λ r.
-        ⌜ (r ≡ replyFor (returns2 point.div (now (left .entry)) flag (now (right .entry)) (now (out .entry)) (now (work .entry))))
-        × (now (out .exit) ≡ out2 point.div (now (left .entry)) flag (now (right .entry)) (now (out .entry)) (now (work .entry)))
-        × (now (work .exit) ≡ work2 point.div (now (left .entry)) flag (now (right .entry)) (now (out .entry)) (now (work .entry))) ⌝
-        ∗ ⌜ Right2 point.div (now (left .entry)) flag (now (right .entry)) (returned r) (now (out .exit)) ⌝ }
+    ensures { λ r. ⌜ Works2 point.div (now (left .entry)) flag (now (right .entry)) (now (out .entry)) (now (work .entry)) (returned r) (now (out .exit)) (now (work .exit)) ⌝ }
+    ensures { λ r. ⌜ Cased r ⌝ }
 {
     joined(Op::Div, left, flag, right, work, out)
 }
 
 // A set that holds the remainders of all members; a zero in the divisor sets the flag, if the left set has a member.
 pub fn rem(left: &[i64], flag: bool, right: &[i64], work: &mut [i64], out: &mut [i64]) -> Reply
-    ensures { λ r.
-        ⌜ (r ≡ replyFor (returns2 point.rem (now (left .entry)) flag (now (right .entry)) (now (out .entry)) (now (work .entry))))
-        × (now (out .exit) ≡ out2 point.rem (now (left .entry)) flag (now (right .entry)) (now (out .entry)) (now (work .entry)))
-        × (now (work .exit) ≡ work2 point.rem (now (left .entry)) flag (now (right .entry)) (now (out .entry)) (now (work .entry))) ⌝
-        ∗ ⌜ Right2 point.rem (now (left .entry)) flag (now (right .entry)) (returned r) (now (out .exit)) ⌝ }
+    ensures { λ r. ⌜ Works2 point.rem (now (left .entry)) flag (now (right .entry)) (now (out .entry)) (now (work .entry)) (returned r) (now (out .exit)) (now (work .exit)) ⌝ }
+    ensures { λ r. ⌜ Cased r ⌝ }
 {
     joined(Op::Rem, left, flag, right, work, out)
 }
 
 // A set that holds what `not` gives of a member: none, 0, 1000 or both.
 pub fn not(left: &[i64], out: &mut [i64]) -> Reply
-    ensures { λ r.
-        ⌜ (r ≡ replyFor (returns1 point.not′ (now (left .entry)) false (now (out .entry)) []))
-        × (now (out .exit) ≡ out1 point.not′ (now (left .entry)) false (now (out .entry)) []) ⌝
-        ∗ ⌜ Right1 point.not′ (now (left .entry)) false (returned r) (now (out .exit)) ⌝ }
+    ensures { λ r. ⌜ Gives1 point.not′ (now (left .entry)) (now (out .entry)) (returned r) (now (out .exit)) ⌝ }
+    ensures { λ r. ⌜ Cased r ⌝ }
 {
     negated(left, out)
 }
 
 // A set that holds what `and` gives of two members: none, 0, 1000 or both.
 pub fn and(left: &[i64], right: &[i64], out: &mut [i64]) -> Reply
-    ensures { λ r.
-        ⌜ (r ≡ replyFor (returns2 point.and (now (left .entry)) false (now (right .entry)) (now (out .entry)) []))
-        × (now (out .exit) ≡ out2 point.and (now (left .entry)) false (now (right .entry)) (now (out .entry)) []) ⌝
-        ∗ ⌜ Right2 point.and (now (left .entry)) false (now (right .entry)) (returned r) (now (out .exit)) ⌝ }
+    ensures { λ r. ⌜ Gives2 point.and (now (left .entry)) (now (right .entry)) (now (out .entry)) (returned r) (now (out .exit)) ⌝ }
+    ensures { λ r. ⌜ Cased r ⌝ }
 {
     related(Relation::And, left, right, out)
 }
 
 // A set that holds what `or` gives of two members: none, 0, 1000 or both.
 pub fn or(left: &[i64], right: &[i64], out: &mut [i64]) -> Reply
-    ensures { λ r.
-        ⌜ (r ≡ replyFor (returns2 point.or (now (left .entry)) false (now (right .entry)) (now (out .entry)) []))
-        × (now (out .exit) ≡ out2 point.or (now (left .entry)) false (now (right .entry)) (now (out .entry)) []) ⌝
-        ∗ ⌜ Right2 point.or (now (left .entry)) false (now (right .entry)) (returned r) (now (out .exit)) ⌝ }
+    ensures { λ r. ⌜ Gives2 point.or (now (left .entry)) (now (right .entry)) (now (out .entry)) (returned r) (now (out .exit)) ⌝ }
+    ensures { λ r. ⌜ Cased r ⌝ }
 {
     related(Relation::Or, left, right, out)
 }
 
 // A set that holds what `<=` gives of two members: none, 0, 1000 or both.
 pub fn int_le(left: &[i64], right: &[i64], out: &mut [i64]) -> Reply
-    ensures { λ r.
-        ⌜ (r ≡ replyFor (returns2 point.le (now (left .entry)) false (now (right .entry)) (now (out .entry)) []))
-        × (now (out .exit) ≡ out2 point.le (now (left .entry)) false (now (right .entry)) (now (out .entry)) []) ⌝
-        ∗ ⌜ Right2 point.le (now (left .entry)) false (now (right .entry)) (returned r) (now (out .exit)) ⌝ }
+    ensures { λ r. ⌜ Gives2 point.le (now (left .entry)) (now (right .entry)) (now (out .entry)) (returned r) (now (out .exit)) ⌝ }
+    ensures { λ r. ⌜ Cased r ⌝ }
 {
     related(Relation::Le, left, right, out)
 }
 
 // A set that holds what `<` gives of two members: none, 0, 1000 or both.
 pub fn int_lt(left: &[i64], right: &[i64], out: &mut [i64]) -> Reply
-    ensures { λ r.
-        ⌜ (r ≡ replyFor (returns2 point.lt (now (left .entry)) false (now (right .entry)) (now (out .entry)) []))
-        × (now (out .exit) ≡ out2 point.lt (now (left .entry)) false (now (right .entry)) (now (out .entry)) []) ⌝
-        ∗ ⌜ Right2 point.lt (now (left .entry)) false (now (right .entry)) (returned r) (now (out .exit)) ⌝ }
+    ensures { λ r. ⌜ Gives2 point.lt (now (left .entry)) (now (right .entry)) (now (out .entry)) (returned r) (now (out .exit)) ⌝ }
+    ensures { λ r. ⌜ Cased r ⌝ }
 {
     related(Relation::Lt, left, right, out)
 }
 
 // A set that holds what `!=` gives of two members: 0, 1000 or both; 1000 where a set is empty.
 pub fn int_ne(left: &[i64], right: &[i64], out: &mut [i64]) -> Reply
-    ensures { λ r.
-        ⌜ (r ≡ replyFor (returns2 point.ne (now (left .entry)) false (now (right .entry)) (now (out .entry)) []))
-        × (now (out .exit) ≡ out2 point.ne (now (left .entry)) false (now (right .entry)) (now (out .entry)) []) ⌝
-        ∗ ⌜ Right2 point.ne (now (left .entry)) false (now (right .entry)) (returned r) (now (out .exit)) ⌝ }
+    ensures { λ r. ⌜ Gives2 point.ne (now (left .entry)) (now (right .entry)) (now (out .entry)) (returned r) (now (out .exit)) ⌝ }
+    ensures { λ r. ⌜ Cased r ⌝ }
 {
     related(Relation::Ne, left, right, out)
 }
 
 // The set of the members of either.
 pub fn union(left: &[i64], right: &[i64], out: &mut [i64]) -> Reply
-    ensures { λ r.
-        ⌜ (r ≡ replyFor (returnsUnion (now (left .entry)) (now (right .entry)) (now (out .entry)))) × (now (out .exit) ≡ outUnion (now (left .entry)) (now (right .entry)) (now (out .entry))) ⌝
-        ∗ ⌜ RightUnion (now (left .entry)) (now (right .entry)) (returned r) (now (out .exit)) ⌝ }
+    ensures { λ r. ⌜ Unites (now (left .entry)) (now (right .entry)) (now (out .entry)) (returned r) (now (out .exit)) ⌝ }
+    ensures { λ r. ⌜ Cased r ⌝ }
 {
     walked(Walk::Union, left, right, out)
 }
 
 // The set of the members of both.
 pub fn intersect(left: &[i64], right: &[i64], out: &mut [i64]) -> Reply
-    ensures { λ r.
-        ⌜ (r ≡ replyFor (returnsIntersect (now (left .entry)) (now (right .entry)) (now (out .entry)))) × (now (out .exit) ≡ outIntersect (now (left .entry)) (now (right .entry)) (now (out .entry))) ⌝
-        ∗ ⌜ RightIntersect (now (left .entry)) (now (right .entry)) (returned r) (now (out .exit)) ⌝ }
+    ensures { λ r. ⌜ Meets (now (left .entry)) (now (right .entry)) (now (out .entry)) (returned r) (now (out .exit)) ⌝ }
+    ensures { λ r. ⌜ Cased r ⌝ }
 {
     walked(Walk::Intersect, left, right, out)
 }

@@ -19,6 +19,10 @@ returned (Refused k) = refused k
 abbrev pub replyFor : Returned → Reply
 replyFor x = cond (eqb (x .number) 0) (Written (x .count) (x .flag)) (Refused (x .number))
 
+-- its case goes by its number: 0 is written, any other refused
+abbrev pub Cased : Reply → Type 0
+Cased r = r ≡ replyFor (returned r)
+
 -- the three equations of a contract; `r`, `o` and `w` are what the call returned and left
 abbrev pub Ended : (k need : ℕ) → Set → Bool → (out work : List ℤ) → (r : Reply) (o w : List ℤ) → Type 0
 Ended k need answer flag out work r o w = (r ≡ replyFor (callReturns k need answer flag out work)) × (o ≡ callOut k need answer flag out work) × (w ≡ callWork k need answer flag out work)

@@ -16,7 +16,8 @@ use Rattle.meaning.specs.Text.{read}
 use Rattle.meaning.specs.Run.{valueOf, runAct, runLine, startNumbers, run, Judged, refused, worked, judge, runText, verdict, runCall, leftBy, runLent}
 use Rattle.meaning.proofs.Work.{ok-same, bind-ok, guard-ok}
 use Rattle.meaning.proofs.Fine.{read-line-fine}
-use Rattle.sheet.specs.Answer.{judgementFor, IsSheet}
+use Rattle.sheet.specs.Answer.{judgementFor}
+use Rattle.sheet.specs.Judging.{IsSheet}
 use Rattle.sheet.specs.declared.Judgement.{Judgement}
 use Rattle.sheet.specs.declared.Judgement.the-variants as judgement
 use Rattle.sheet.specs.Feed.{feed}

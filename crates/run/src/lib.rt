@@ -4,9 +4,9 @@ ghost use mathlib.Core.Path.{_≡_};
 ghost use Prim.Native.Nat.{_≤_};
 ghost use lib.ListN.{length};
 ghost use Rattle.meaning.specs.Sheet.{registers};
-ghost use Rattle.meaning.specs.Run.{verdict, runCall, runLent, runText, leftBy};
-ghost use Rattle.sheet.specs.Answer.{IsSheet};
-ghost use Rattle.run.specs.Answer.{verdictOf, answerFor};
+ghost use Rattle.meaning.specs.Run.{runText, leftBy};
+ghost use Rattle.sheet.specs.Judging.{IsSheet};
+ghost use Rattle.run.specs.Answer.{answerFor, Ran};
 use run_lines::Step;
 use run_lines::run_line;
 use sheet::Judgement;
@@ -49,9 +49,7 @@ fn work(text: &[u8], lent: &mut [i64], count: usize) -> Answer
 
 // The run of any bytes on the numbers lent for the registers.
 pub fn run(text: &[u8], lent: &mut [i64]) -> Answer
-    ensures { λ r. ⌜ verdictOf r ≡ verdict (runCall (now (text .entry)) (now (lent .entry))) ⌝ }
-    ensures { λ r. ⌜ r ≡ answerFor (runCall (now (text .entry)) (now (lent .entry))) ⌝ }
-    ensures { λ r. ⌜ now (lent .exit) ≡ runLent (now (text .entry)) (now (lent .entry)) ⌝ }
+    ensures { λ r. ⌜ Ran (now (text .entry)) (now (lent .entry)) r (now (lent .exit)) ⌝ }
 {
     if lent.len() < 16 {
         return Answer::Refused(3, 0);

@@ -92,7 +92,7 @@ fn value_at(text: &[u8], j: usize, regs: &[i64], work: &mut [i64]) -> SetV
     v
 }
 
-// One line: 0, or the number of its trouble, which leaves the sets as they were.
+// One line: 0, or the number of its trouble.
 pub fn check_line(text: &[u8], regs: &mut [i64], work: &mut [i64]) -> u8
     requires { ⌜ Shown (now regs) × (8192 ≤ length (now work)) ⌝ }
     ensures { λ k. ⌜ Worked k (now (regs .exit)) (now (regs .entry)) (now (text .entry)) ⌝ }

@@ -25,7 +25,8 @@ use Rattle.lines.proofs.Lines.{refused-some, put-reads}
 use Rattle.sheet.specs.declared.Judgement.{Judgement}
 use Rattle.sheet.specs.declared.Judgement.the-variants as judgement
 use Rattle.sheet.specs.Feed.{feed}
-use Rattle.sheet.specs.Answer.{judgementFor, judgementOf, readVerdict, IsSheet, isAct, admission, takenWith, inRegister}
+use Rattle.sheet.specs.Answer.{judgementFor, judgementOf, readVerdict}
+use Rattle.sheet.specs.Judging.{IsSheet, isAct, admission, takenWith, inRegister}
 use Rattle.sheet.proofs.Feeds.{next-lines, next-rest, end-lt}
 
 -- the array says which registers are among l

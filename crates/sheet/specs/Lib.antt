@@ -1,3 +1,4 @@
 pub mod Answer
 pub mod Feed
+pub mod Judging
 pub mod Place

@@ -5,10 +5,11 @@ ghost use mathlib.Core.List.{[]};
 ghost use Prim.Native.Nat.{_+_, _<_};
 ghost use lib.ListN.{length, drop};
 ghost use Rattle.meaning.specs.Sheet.{registers};
-ghost use Rattle.meaning.specs.Text.{lineAt, cut, splitLines, lines, shaped as shapedText, nothingSeen, readLines, read};
+ghost use Rattle.meaning.specs.Text.{lineAt, cut, splitLines, lines, shaped as shapedText, nothingSeen, readLines};
 ghost use Rattle.sheet.specs.Feed.{feed};
 ghost use Rattle.sheet.specs.Place.{Placed};
-ghost use Rattle.sheet.specs.Answer.{readVerdict, judgementOf, judgementFor, isAct, admission, takenWith, inRegister};
+ghost use Rattle.sheet.specs.Answer.{judgementFor, Judges};
+ghost use Rattle.sheet.specs.Judging.{isAct, admission, takenWith, inRegister};
 use lines::LineForm;
 use lines::read_line;
 
@@ -167,8 +168,7 @@ fn judge_lines(text: &[u8]) -> Judgement
 
 // Any bytes, of any length: 5 over the whole text first, then line by line 6, 7, LO past HI, 8.
 pub fn judge_text(text: &[u8]) -> Judgement
-    ensures { λ r. ⌜ judgementOf r ≡ readVerdict (read (now (text .entry))) ⌝ }
-    ensures { λ r. ⌜ r ≡ judgementFor (read (now (text .entry))) ⌝ }
+    ensures { λ r. ⌜ Judges (now (text .entry)) r ⌝ }
 {
     if shaped(text) {
         judge_lines(text)

@@ -27,7 +27,8 @@ use Rattle.meaning.proofs.Slots.{length-shown}
 use Rattle.meaning.proofs.Demand2.{demand2}
 use Rattle.meaning.proofs.CheckSets.{Kept, start-kept, line-kept, kept-sound}
 use Rattle.sheet.specs.Feed.{feed}
-use Rattle.sheet.specs.Answer.{judgementFor, IsSheet}
+use Rattle.sheet.specs.Answer.{judgementFor}
+use Rattle.sheet.specs.Judging.{IsSheet}
 use Rattle.sheet.specs.declared.Judgement.{Judgement}
 use Rattle.sheet.specs.declared.Judgement.the-variants as judgement
 use Rattle.sheet.proofs.Feeds.{end-lt}
@@ -35,7 +36,8 @@ use Rattle.sheet.proofs.Judging.{refused-read}
 use Rattle.sheet.proofs.Walk.{Walk, Next, walk-start, walk-next, walk-done}
 use Rattle.set_values.specs.Value.{Shown}
 use Rattle.set_lines.specs.Worked.{lineCheck, Worked}
-use Rattle.sheet_check.specs.Answer.{verdictOf, troubleOf, answerFor, isPass, Checked, Called}
+use Rattle.sheet_check.specs.Answer.{verdictOf, troubleOf, answerFor, Called}
+use Rattle.sheet_check.specs.Working.{isPass, Checked}
 use Rattle.sheet_check.specs.declared.Answer.{Answer}
 use Rattle.sheet_check.specs.declared.Answer.the-variants as answer
 
@@ -48,7 +50,7 @@ unfolding troubleOf
 trouble-verdict k l = by-test (leb 20 k) (λ e. rw e) (λ e. rw e)
 
 answer-verdict : (x : Judged Bands) → verdictOf (answerFor x) ≡ verdict x
-answer-verdict (refused k l) = trouble-verdict k l
+answer-verdict (refused k l) = refl
 answer-verdict (worked n (done B)) = refl
 answer-verdict (worked n (stopped k l B)) = trouble-verdict k l
 
@@ -206,17 +208,15 @@ module _ (t : List ℕ) (sets work : List ℤ) where
   long-call k h = rw (le-ltb (length sets) setsNeed k, le-ltb (length work) workNeed h)
 
   pub called-short-sets : length sets < 528 → Called t sets work (answer.Refused 3 0) sets work
-  unfolding troubleOf
   called-short-sets h = call-is (refused tooShort 0) (short-sets h) refl refl refl
 
   pub called-short-work : 528 ≤ length sets → length work < 8192 → Called t sets work (answer.Refused 3 0) sets work
-  unfolding troubleOf
   called-short-work k h = call-is (refused tooShort 0) (short-work k h) refl refl refl
 
   module _ (k : 528 ≤ length sets) (h : 8192 ≤ length work) {j : Judgement} (ej : j ≡ judgementFor (read t)) where
-    pub called-refused : {q l : ℕ} {r : Answer} → j ≡ judgement.Refused q l → r ≡ troubleOf q l → Called t sets work r sets work
+    pub called-refused : {q l : ℕ} → j ≡ judgement.Refused q l → Called t sets work (answer.Refused q l) sets work
     unfolding checkText
-    called-refused {q} {l} e v = call-is (refused q l) (long-call k h ∙ ap (judge (check shipLimit)) (refused-read t ej e)) v refl refl
+    called-refused {q} {l} e = call-is (refused q l) (long-call k h ∙ ap (judge (check shipLimit)) (refused-read t ej e)) refl refl refl
 
     pub called-worked : {r : Answer} {sets′ work′ : List ℤ} → r ≡ answerFor (checkText shipLimit t) → sets′ ≡ setsLeftBy sets (checkText shipLimit t)
         → work′ ≡ workLeftBy work (checkText shipLimit t) → Called t sets work r sets′ work′

@@ -1,15 +1,14 @@
 -- What the answers of the check say, in the words of `meaning`. Assumes nothing.
 use lib.Dec.{leb}
 use lib.IntN.{ℤ}
-use lib.ListN.{length}
 use mathlib.Core.Path.{_≡_}
-use mathlib.Core.Bool.{Bool, true, false, cond}
+use mathlib.Core.Bool.{cond}
 use mathlib.Core.List.{List}
 use Prim.Native.Nat.{ℕ}
 use Rattle.meaning.specs.Refusals.{zeroDivisor}
 use Rattle.meaning.specs.Outcome.{done, stopped}
 use Rattle.meaning.specs.Run.{Verdict, verdict, Judged, refused, worked}
-use Rattle.meaning.specs.Check.{Bands, layout, setsNeed, checkCall, checkSets, checkWork}
+use Rattle.meaning.specs.Check.{Bands, checkCall, checkSets, checkWork}
 use Rattle.sheet_check.specs.declared.Answer.{Answer}
 use Rattle.sheet_check.specs.declared.Answer.the-variants as answer
 
@@ -19,27 +18,15 @@ verdictOf (answer.Pass n) = record { number = 0; line = 0; count = n }
 verdictOf (answer.Finding k l) = record { number = k; line = l; count = 0 }
 verdictOf (answer.Refused k l) = record { number = k; line = l; count = 0 }
 
--- findings are the numbers from 20 on; those below refuse
+-- what a line meets: the numbers from 20 on are findings, 9 refuses
 unfoldable pub troubleOf : ℕ → ℕ → Answer
 troubleOf k l = cond (leb zeroDivisor k) (answer.Finding k l) (answer.Refused k l)
 
 -- the answer for what the check comes to
 abbrev pub answerFor : Judged Bands → Answer
-answerFor (refused k l) = troubleOf k l
+answerFor (refused k l) = answer.Refused k l
 answerFor (worked n (done B)) = answer.Pass n
 answerFor (worked n (stopped k l B)) = troubleOf k l
-
--- the sets are written
-abbrev pub isPass : Answer → Bool
-isPass (answer.Pass n) = true
-isPass (answer.Finding k l) = false
-isPass (answer.Refused k l) = false
-
--- the answer for the lines of a sheet, and the numbers that show the sets after them
-pub record Checked (r : Answer) (after : List ℤ) (x : Judged Bands) : Type 0 where
-  pub same : r ≡ answerFor x
-  pub passes : isPass r ≡ true → (n : ℕ) × (B : Bands) × (x ≡ worked n (done B)) × (after ≡ layout (B .sets)) × (length after ≡ setsNeed)
-  pub stops : isPass r ≡ false → (n k l : ℕ) × (B : Bands) × (x ≡ worked n (stopped k l B))
 
 -- a call of the check: what it answers, and what it leaves in its slices
 pub record Called (t : List ℕ) (sets work : List ℤ) (r : Answer) (sets′ work′ : List ℤ) : Type 0 where

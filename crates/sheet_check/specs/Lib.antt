@@ -1,2 +1,3 @@
 pub mod Answer
+pub mod Working
 pub mod Demand3

@@ -9,10 +9,10 @@ use slices::zero_first;
 ghost use mathlib.Core.Path.{_≡_};
 ghost use Prim.Native.Nat.{_≤_};
 ghost use lib.ListN.{length};
-ghost use Rattle.meaning.specs.Run.{verdict};
-ghost use Rattle.meaning.specs.Check.{layout, startSets, setsNeed, workNeed, shipLimit, checkText, checkCall, checkSets, checkWork, setsLeftBy, workLeftBy};
-ghost use Rattle.sheet.specs.Answer.{IsSheet};
-ghost use Rattle.sheet_check.specs.Answer.{verdictOf, troubleOf, answerFor, isPass, Checked};
+ghost use Rattle.meaning.specs.Check.{layout, startSets, setsNeed, workNeed, shipLimit, checkText, setsLeftBy, workLeftBy};
+ghost use Rattle.sheet.specs.Judging.{IsSheet};
+ghost use Rattle.sheet_check.specs.Answer.{troubleOf, answerFor, Called};
+ghost use Rattle.sheet_check.specs.Working.{isPass, Checked};
 
 // A pass with the count of lines, a finding or a refusal with its number and line.
 pub enum Answer {
@@ -81,10 +81,7 @@ fn check_sheet(text: &[u8], count: usize, sets: &mut [i64], work: &mut [i64]) ->
 
 // The check of any bytes: on a pass the sets after the last line are written to `sets`.
 pub fn check(text: &[u8], sets: &mut [i64], work: &mut [i64]) -> Answer
-    ensures { λ r. ⌜ verdictOf r ≡ verdict (checkCall (now (text .entry)) (now (sets .entry)) (now (work .entry))) ⌝ }
-    ensures { λ r. ⌜ r ≡ answerFor (checkCall (now (text .entry)) (now (sets .entry)) (now (work .entry))) ⌝ }
-    ensures { λ r. ⌜ now (sets .exit) ≡ checkSets (now (text .entry)) (now (sets .entry)) (now (work .entry)) ⌝ }
-    ensures { λ r. ⌜ now (work .exit) ≡ checkWork (now (text .entry)) (now (sets .entry)) (now (work .entry)) ⌝ }
+    ensures { λ r. ⌜ Called (now (text .entry)) (now (sets .entry)) (now (work .entry)) r (now (sets .exit)) (now (work .exit)) ⌝ }
 {
     if sets.len() < 528 {
         return Answer::Refused(3, 0);
@@ -94,6 +91,6 @@ pub fn check(text: &[u8], sets: &mut [i64], work: &mut [i64]) -> Answer
     }
     match judge_text(text) {
         Judgement::Fine(n) => check_sheet(text, n, sets, work),
-        Judgement::Refused(k, n) => trouble(k, n),
+        Judgement::Refused(k, n) => Answer::Refused(k, n),
     }
 }

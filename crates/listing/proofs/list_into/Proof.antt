@@ -31,7 +31,7 @@ told-requires : tie.Need-told-requires
 told-requires c κs =
     let s = c .before .before .before .before .before .before .before .before .before .before .before .before in
     let k = c .before .before .before .before .before .before .before .check .ensures in
-    (told-by (s .args .text .now) (replicate 528 (pos 0)) (replicate 8192 (pos 0)) (length-replicate 528 (pos 0)) (length-replicate 8192 (pos 0)) (k .0) (k .1 .1 .0) (c .before .before .number-of .ensures) (c .before .line-of .ensures) (c .count-of .ensures), s .pre)
+    (told-by (s .args .text .now) (replicate 528 (pos 0)) (replicate 8192 (pos 0)) (length-replicate 528 (pos 0)) (length-replicate 8192 (pos 0)) (k .verdict-is) (k .sets-left) (c .before .before .number-of .ensures) (c .before .line-of .ensures) (c .count-of .ensures), s .pre)
 
 same-length : tie.Need-same-length
 same-length c = search needs

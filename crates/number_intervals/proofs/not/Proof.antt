@@ -1,8 +1,6 @@
 -- What the call below does.
-use mathlib.Core.Bool.{false}
-use mathlib.Core.List.{[]}
 use Rattle.meaning.specs.Number as point
-use Rattle.number_intervals.proofs.Right.{right1}
+use Rattle.number_intervals.proofs.Right.{gives1}
 use borrow.Author.Needs.{needs}
 use Rattle.number_intervals.proofs.not.Statement.{statement}
 use Rattle.number_intervals.proofs.not.Tie as tie
@@ -17,7 +15,7 @@ returns : tie.Need-returns
 returns c =
     let a = c .before .before .before .args in
     let h = c .before .negated .ensures in
-    (h .0, right1 point.not′ (a .left .now) false (a .out .now) [] (h .0 .0) (h .0 .1) (h .1))
+    gives1 point.not′ (a .left .now) (a .out .now) (h .0) (h .1)
 
 pub not-spec : {M : Type 1} → statement M
 not-spec = tie.close (tie.spec negated-requires same-length returns)

@@ -1,6 +1,6 @@
 -- What all calls of two sets with work do, for its own operation.
 use Rattle.meaning.specs.Number as point
-use Rattle.number_intervals.proofs.Right.{right2}
+use Rattle.number_intervals.proofs.Right.{works2}
 use borrow.Author.Needs.{needs}
 use Rattle.number_intervals.proofs.sub.Statement.{statement}
 use Rattle.number_intervals.proofs.sub.Tie as tie
@@ -18,7 +18,7 @@ returns : tie.Need-returns
 returns c =
     let a = c .before .before .before .before .before .args in
     let h = c .before .before .joined .ensures in
-    (h .0, right2 point.sub (a .left .now) (a .flag) (a .right .now) (a .out .now) (a .work .now) (h .0 .0) (h .0 .1) (h .1))
+    works2 point.sub (a .left .now) (a .flag) (a .right .now) (a .out .now) (a .work .now) (h .0) (h .1)
 
 pub sub-spec : {M : Type 1} → statement M
 sub-spec = tie.close (tie.spec joined-requires same-length same-length-2 returns)

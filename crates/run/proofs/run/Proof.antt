@@ -6,7 +6,7 @@ use Rattle.run.proofs.run.Statement.{statement}
 use Rattle.run.proofs.run.Tie as tie
 
 returns : tie.Need-returns
-returns c = let q = ran-short (c .before .before .args .text .now) (c .before .before .args .lent .now) (c .if1 .taken) in (q .verdict-is, (q .answer-is, q .lent-left))
+returns c = ran-short (c .before .before .args .text .now) (c .before .before .args .lent .now) (c .if1 .taken)
 
 judge-text-requires : tie.Need-judge-text-requires
 judge-text-requires c κs = search needs
@@ -15,7 +15,7 @@ enum-known-n : tie.Need-enum-known-n
 enum-known-n c = search needs
 
 work-requires : tie.Need-work-requires
-work-requires c κs = (c .before .before .before .before .before .if1 .left, fine-sheet (c .before .before .before .before .before .before .before .args .text .now) (c .before .before .before .before .judge-text .ensures .1) (c .before .before .n .given .1))
+work-requires c κs = (c .before .before .before .before .before .if1 .left, fine-sheet (c .before .before .before .before .before .before .before .args .text .now) (c .before .before .before .before .judge-text .ensures .answer-is) (c .before .before .n .given .1))
 
 enum-known-k : tie.Need-enum-known-k
 enum-known-k c = search needs
@@ -24,10 +24,10 @@ same-length : tie.Need-same-length
 same-length c = search needs
 
 returns-2 : tie.Need-returns-2
-returns-2 c = let e = c .before .work .ensures in let q = ran-worked (c .before .before .before .before .before .before .before .before .before .args .text .now) (c .before .before .before .before .before .before .before .before .before .args .lent .now) (c .before .before .before .before .before .before .before .if1 .left) (e .0) (e .1) in (q .verdict-is, (q .answer-is, q .lent-left))
+returns-2 c = let e = c .before .work .ensures in ran-worked (c .before .before .before .before .before .before .before .before .before .args .text .now) (c .before .before .before .before .before .before .before .before .before .args .lent .now) (c .before .before .before .before .before .before .before .if1 .left) (e .0) (e .1)
 
 returns-3 : tie.Need-returns-3
-returns-3 c = let q = ran-refused (c .before .before .before .before .before .before .args .text .now) (c .before .before .before .before .before .before .args .lent .now) (c .before .before .before .before .if1 .left) (c .before .before .before .judge-text .ensures .1) (c .before .k .given .1) in (q .verdict-is, (q .answer-is, q .lent-left))
+returns-3 c = ran-refused (c .before .before .before .before .before .before .args .text .now) (c .before .before .before .before .before .before .args .lent .now) (c .before .before .before .before .if1 .left) (c .before .before .before .judge-text .ensures .answer-is) (c .before .k .given .1)
 
 pub run-spec : {M : Type 1} → statement M
 run-spec =

@@ -13,10 +13,10 @@ judge-lines-requires : tie.Need-judge-lines-requires
 judge-lines-requires c κs = shaped-ended (c .before .before .before .args .text .now) (c .before .shaped .ensures) (c .if1 .taken)
 
 returns : tie.Need-returns
-returns c = let e = c .judge-lines .ensures ∙ read-shaped (c .before .before .before .before .args .text .now) (c .before .before .shaped .ensures) (c .before .if1 .taken) in (judged-so (read (c .before .before .before .before .args .text .now)) e, e)
+returns c = let e = c .judge-lines .ensures ∙ read-shaped (c .before .before .before .before .args .text .now) (c .before .before .shaped .ensures) (c .before .if1 .taken) in record { verdict-is = judged-so (read (c .before .before .before .before .args .text .now)) e; answer-is = e }
 
 returns-2 : tie.Need-returns-2
-returns-2 c = let e = read-unshaped (c .before .before .before .args .text .now) (c .before .shaped .ensures) (c .if1 .left) in (judged-so (read (c .before .before .before .args .text .now)) e, e)
+returns-2 c = let e = read-unshaped (c .before .before .before .args .text .now) (c .before .shaped .ensures) (c .if1 .left) in record { verdict-is = judged-so (read (c .before .before .before .args .text .now)) e; answer-is = e }
 
 pub judge-text-spec : {M : Type 1} → statement M
 judge-text-spec = tie.close (tie.spec shaped-requires judge-lines-requires returns returns-2)

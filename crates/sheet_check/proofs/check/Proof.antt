@@ -6,10 +6,10 @@ use Rattle.sheet_check.proofs.check.Statement.{statement}
 use Rattle.sheet_check.proofs.check.Tie as tie
 
 returns : tie.Need-returns
-returns c = let q = called-short-sets (c .before .before .args .text .now) (c .before .before .args .sets .now) (c .before .before .args .work .now) (c .if1 .taken) in (q .verdict-is, (q .answer-is, (q .sets-left, q .work-left)))
+returns c = called-short-sets (c .before .before .args .text .now) (c .before .before .args .sets .now) (c .before .before .args .work .now) (c .if1 .taken)
 
 returns-2 : tie.Need-returns-2
-returns-2 c = let q = called-short-work (c .before .before .before .args .text .now) (c .before .before .before .args .sets .now) (c .before .before .before .args .work .now) (c .before .if1 .left) (c .if2 .taken) in (q .verdict-is, (q .answer-is, (q .sets-left, q .work-left)))
+returns-2 c = called-short-work (c .before .before .before .args .text .now) (c .before .before .before .args .sets .now) (c .before .before .before .args .work .now) (c .before .if1 .left) (c .if2 .taken)
 
 judge-text-requires : tie.Need-judge-text-requires
 judge-text-requires c κs = search needs
@@ -18,13 +18,10 @@ enum-known-n : tie.Need-enum-known-n
 enum-known-n c = search needs
 
 check-sheet-requires : tie.Need-check-sheet-requires
-check-sheet-requires c κs = (fine-sheet (c .before .before .before .before .before .before .before .before .before .args .text .now) (c .before .before .before .before .before .judge-text .ensures .1) (c .before .before .before .n .given .1), c .before .before .before .before .before .before .before .if1 .left, c .before .before .before .before .before .before .if2 .left)
+check-sheet-requires c κs = (fine-sheet (c .before .before .before .before .before .before .before .before .before .args .text .now) (c .before .before .before .before .before .judge-text .ensures .answer-is) (c .before .before .before .n .given .1), c .before .before .before .before .before .before .before .if1 .left, c .before .before .before .before .before .before .if2 .left)
 
 enum-known-k : tie.Need-enum-known-k
 enum-known-k c = search needs
-
-trouble-requires : tie.Need-trouble-requires
-trouble-requires c κs = search needs
 
 same-length : tie.Need-same-length
 same-length c = search needs
@@ -33,10 +30,10 @@ same-length-2 : tie.Need-same-length-2
 same-length-2 c = search needs
 
 returns-3 : tie.Need-returns-3
-returns-3 c = let e = c .before .before .check-sheet .ensures in let q = called-worked (c .before .before .before .before .before .before .before .before .before .before .before .before .args .text .now) (c .before .before .before .before .before .before .before .before .before .before .before .before .args .sets .now) (c .before .before .before .before .before .before .before .before .before .before .before .before .args .work .now) (c .before .before .before .before .before .before .before .before .before .before .if1 .left) (c .before .before .before .before .before .before .before .before .before .if2 .left) (c .before .before .before .before .before .before .before .before .judge-text .ensures .1) (e .0) (e .1 .0) (e .1 .1) in (q .verdict-is, (q .answer-is, (q .sets-left, q .work-left)))
+returns-3 c = let e = c .before .before .check-sheet .ensures in called-worked (c .before .before .before .before .before .before .before .before .before .before .before .before .args .text .now) (c .before .before .before .before .before .before .before .before .before .before .before .before .args .sets .now) (c .before .before .before .before .before .before .before .before .before .before .before .before .args .work .now) (c .before .before .before .before .before .before .before .before .before .before .if1 .left) (c .before .before .before .before .before .before .before .before .before .if2 .left) (c .before .before .before .before .before .before .before .before .judge-text .ensures .answer-is) (e .0) (e .1 .0) (e .1 .1)
 
 returns-4 : tie.Need-returns-4
-returns-4 c = let q = called-refused (c .before .before .before .before .before .before .before .before .args .text .now) (c .before .before .before .before .before .before .before .before .args .sets .now) (c .before .before .before .before .before .before .before .before .args .work .now) (c .before .before .before .before .before .before .if1 .left) (c .before .before .before .before .before .if2 .left) (c .before .before .before .before .judge-text .ensures .1) (c .before .before .k .given .1) (c .trouble .ensures) in (q .verdict-is, (q .answer-is, (q .sets-left, q .work-left)))
+returns-4 c = called-refused (c .before .before .before .before .before .before .before .before .args .text .now) (c .before .before .before .before .before .before .before .before .args .sets .now) (c .before .before .before .before .before .before .before .before .args .work .now) (c .before .before .before .before .before .before .if1 .left) (c .before .before .before .before .before .if2 .left) (c .before .before .before .before .judge-text .ensures .answer-is) (c .before .before .k .given .1) (c .trouble .ensures)
 
 pub check-spec : {M : Type 1} → statement M
-check-spec = tie.close (tie.spec returns returns-2 judge-text-requires enum-known-n check-sheet-requires enum-known-k trouble-requires same-length same-length-2 returns-3 returns-4)
+check-spec = tie.close (tie.spec returns returns-2 judge-text-requires enum-known-n check-sheet-requires enum-known-k same-length same-length-2 returns-3 returns-4)

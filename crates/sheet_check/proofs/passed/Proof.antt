@@ -1,6 +1,6 @@
 -- The answer says it.
 use mathlib.Core.Path.{sym, ap}
-use Rattle.sheet_check.specs.Answer.{isPass}
+use Rattle.sheet_check.specs.Working.{isPass}
 use borrow.Author.Needs.{needs}
 use Rattle.sheet_check.proofs.passed.Statement.{statement}
 use Rattle.sheet_check.proofs.passed.Tie as tie

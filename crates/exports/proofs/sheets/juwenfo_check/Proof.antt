@@ -17,7 +17,7 @@ same-length-2 : tie.Need-same-length-2
 same-length-2 c = search needs
 
 returns : tie.Need-returns
-returns c = let e = c .before .before .before .check .ensures in (c .for-check .ensures ∙ e .0, e .1 .1)
+returns c = let e = c .before .before .before .check .ensures in (c .for-check .ensures ∙ e .verdict-is, (e .sets-left, e .work-left))
 
 pub juwenfo-check-spec : {M : Type 1} → statement M
 juwenfo-check-spec = tie.close (tie.spec check-requires for-check-requires same-length same-length-2 returns)

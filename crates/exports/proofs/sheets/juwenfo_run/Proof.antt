@@ -14,7 +14,7 @@ same-length : tie.Need-same-length
 same-length c = search needs
 
 returns : tie.Need-returns
-returns c = let e = c .before .before .run .ensures in (c .for-run .ensures ∙ e .0, e .1 .1)
+returns c = let e = c .before .before .run .ensures in (c .for-run .ensures ∙ e .verdict-is, e .lent-left)
 
 pub juwenfo-run-spec : {M : Type 1} → statement M
 juwenfo-run-spec = tie.close (tie.spec run-requires for-run-requires same-length returns)

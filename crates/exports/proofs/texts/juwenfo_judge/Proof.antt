@@ -11,7 +11,7 @@ for-judgement-requires : tie.Need-for-judgement-requires
 for-judgement-requires c κs = search needs
 
 returns : tie.Need-returns
-returns c = c .for-judgement .ensures ∙ c .before .judge-text .ensures .0
+returns c = c .for-judgement .ensures ∙ c .before .judge-text .ensures .verdict-is
 
 pub juwenfo-judge-spec : {M : Type 1} → statement M
 juwenfo-judge-spec = tie.close (tie.spec judge-text-requires for-judgement-requires returns)
