@@ -1,6 +1,6 @@
 -- One digit more of a number in decimal. Assumes nothing.
 use mathlib.Core.Path.{_≡_, refl, sym, ap, _∙_}
-use mathlib.Core.List.{List, [], _∷_, _++_}
+use mathlib.Core.List.{List, _∷_, _++_}
 use Prim.Native.Nat.{ℕ, suc, _+_, _/_, _%_, _≤_, _<_}
 use native.Mathlib.Omega.{arith}
 use native.Mathlib.Numerals.{add-one}
@@ -10,6 +10,7 @@ use lib.IntN.{ℤ, pos, negsuc, natAbs}
 use lib.Signed.{_≤ℤ_, _<ℤ_}
 use lib.Seq.{drop-cons, drop-set-lt, getD-set-same}
 use Rattle.meaning.proofs.Integers.{lt-in}
+use Rattle.meaning.specs.Bytes.{bytes}
 use Rattle.meaning.specs.Listing.{digitsBefore, decimal, decimalZ}
 
 -- a stored element, and what stands after it
@@ -34,7 +35,7 @@ module _ (at k m : ℕ) (l : List ℕ) (e : k + 1 ≡ at) (h : k < length l) whe
 
 -- ---- the minus
 
-pub minus-digits : (x : ℤ) → x <ℤ pos 0 → (45 ∷ []) ++ decimal (natAbs x) ≡ decimalZ x
+pub minus-digits : (x : ℤ) → x <ℤ pos 0 → bytes "-" ++ decimal (natAbs x) ≡ decimalZ x
 unfolding decimalZ
 minus-digits (pos n) h = absurd (omega (arith, lt-in {a = pos n} {b = pos 0} h))
 minus-digits (negsuc n) h = refl

@@ -3,6 +3,7 @@ use mathlib.Core.Path.{_≡_, refl, sym, ap, _∙_}
 use mathlib.Core.Bool.{Bool}
 use mathlib.Core.List.{List}
 use Prim.Native.Nat.{ℕ, zero, suc, _+_, _-_}
+use Prim.Native.Char.{code}
 use native.Mathlib.Numerals.{sub-one}
 use lib.IntN.{ℤ}
 use lib.ListN.{getD, drop}
@@ -19,11 +20,11 @@ use Rattle.forms.specs.Answer.{sizes}
 module _ {A : Type 0} (alg : Algebra A) where
   -- b is the text's first byte
   module _ (s : List ℕ) (d : ℕ) {b : ℕ} (eb : b ≡ getD s 0 0) where
-    pub arg-none : b ≡ 40 → d ≡ 0 → arg alg d s ≡ bad
+    pub arg-none : b ≡ code "(" → d ≡ 0 → arg alg d s ≡ bad
     unfolding arg
     arg-none e z = rw (z, ← eb, eq-eqb _ _ e)
 
-    pub arg-literal : (b ≡ 40 → ⊥) → arg alg d s ≡ mapGot (alg .onLit) (literal s)
+    pub arg-literal : (b ≡ code "(" → ⊥) → arg alg d s ≡ mapGot (alg .onLit) (literal s)
     unfolding arg
     arg-literal e = go d
       where
@@ -31,7 +32,7 @@ module _ {A : Type 0} (alg : Algebra A) where
         go zero = rw (← eb, ne-eqb _ _ e)
         go (suc d) = rw (← eb, ne-eqb _ _ e)
 
-  pub arg-form : (s : List ℕ) (d : ℕ) {b : ℕ} → b ≡ getD s 0 0 → b ≡ 40 → (d ≡ 0 → ⊥) → arg alg d s ≡ form alg (d - 1) s
+  pub arg-form : (s : List ℕ) (d : ℕ) {b : ℕ} → b ≡ getD s 0 0 → b ≡ code "(" → (d ≡ 0 → ⊥) → arg alg d s ≡ form alg (d - 1) s
   unfolding arg form
   arg-form s zero eb e z = absurd (z refl)
   arg-form s (suc d) eb e z = rw (sub-one, ← eb, eq-eqb _ _ e)
@@ -63,11 +64,11 @@ module _ {A : Type 0} (alg : Algebra A) where
       unfolding form
       form-two-bad ho qo = rw (sym eh ∙ ho, ← ek, ← et, sym eq ∙ qo)
 
-      pub form-no-space : {o : Op2} {n b : ℕ} {a : A} → h ≡ is2 o → q ≡ got a n → b ≡ getD s (k + n) 0 → (b ≡ 32 → ⊥) → form alg d s ≡ bad
+      pub form-no-space : {o : Op2} {n b : ℕ} {a : A} → h ≡ is2 o → q ≡ got a n → b ≡ getD s (k + n) 0 → (b ≡ code " " → ⊥) → form alg d s ≡ bad
       unfolding form
       form-no-space ho qo eb ne = rw (sym eh ∙ ho, ← ek, ← et, sym eq ∙ qo, ← eb, ne-eqb _ _ ne)
 
-      module _ {o : Op2} {n b : ℕ} {a : A} (ho : h ≡ is2 o) (qo : q ≡ got a n) (eb : b ≡ getD s (k + n) 0) (sp : b ≡ 32)
+      module _ {o : Op2} {n b : ℕ} {a : A} (ho : h ≡ is2 o) (qo : q ≡ got a n) (eb : b ≡ getD s (k + n) 0) (sp : b ≡ code " ")
           {t′ : List ℕ} {q′ : Got A} (et′ : t′ ≡ drop (k + n + 1) s) (eq′ : q′ ≡ arg alg d t′) where
         pub form-two : {m : ℕ} {a′ : A} → q′ ≡ got a′ m → form alg d s ≡ closed s (k + n + 1 + m) (alg .on2 o a a′)
         unfolding form
@@ -78,7 +79,7 @@ module _ {A : Type 0} (alg : Algebra A) where
         form-second-bad qo′ = rw (sym eh ∙ ho, ← ek, ← et, sym eq ∙ qo, ← eb, eq-eqb _ _ sp, ← et′, sym eq′ ∙ qo′)
 
 -- a literal's size
-module _ (s : List ℕ) (d : ℕ) {b : ℕ} {r : Literal} (eb : b ≡ getD s 0 0) (ne : b ≡ 40 → ⊥) (er : r ≡ literalOf (literal s)) where
+module _ (s : List ℕ) (d : ℕ) {b : ℕ} {r : Literal} (eb : b ≡ getD s 0 0) (ne : b ≡ code "(" → ⊥) (er : r ≡ literalOf (literal s)) where
   pub size-literal : {v : ℤ} {far : Bool} {n : ℕ} → r ≡ literal.Is v far n → got far n ≡ arg sizes d s
   size-literal {v} {far} {n} e =
       let l = literal-is (literal s) er e in

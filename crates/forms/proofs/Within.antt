@@ -2,6 +2,7 @@
 use mathlib.Core.Path.{_≡_, sym, subst, _∙_}
 use mathlib.Core.List.{List}
 use Prim.Native.Nat.{ℕ, zero, suc, _+_, _-_, _≤_}
+use Prim.Native.Char.{code}
 use native.Mathlib.Omega.{arith}
 use lib.Dec.{eqb}
 use lib.ListN.{length, getD, drop}
@@ -12,7 +13,7 @@ use Rattle.literals.proofs.Within.{byte-lt, Within, literal-within, part-le}
 
 pub start-le : (s : List ℕ) → start s ≤ 5
 unfolding start
-start-le s = cond-case (λ n. n ≤ 5) (eqb (getD s 3 0) 32) 4 5 (λ e. omega arith) (λ e. omega arith)
+start-le s = cond-case (λ n. n ≤ 5) (eqb (getD s 3 0) (code " ")) 4 5 (λ e. omega arith) (λ e. omega arith)
 
 then-within : {A B : Type 0} (L : ℕ) (g : Got A) (k : A → ℕ → Got B) → ((a : A) (n : ℕ) → Within L (k a n)) → Within L (andThen g k)
 then-within L (got a n) k h = h a n
@@ -26,8 +27,8 @@ module _ {A : Type 0} (alg : Algebra A) where
   closed-within : (s : List ℕ) (i : ℕ) (a : A) → Within (length s) (closed s i a)
   unfolding closed
   closed-within s i a =
-      cond-case (Within (length s)) (eqb (getD s i 0) 41) (got a (i + 1)) bad
-      (λ e. let h : getD s i 0 ≡ 41 = eqb-true (getD s i 0) 41 e in let l = byte-lt s i (omega arith) in omega arith)
+      cond-case (Within (length s)) (eqb (getD s i 0) (code ")")) (got a (i + 1)) bad
+      (λ e. let h : getD s i 0 ≡ code ")" = eqb-true (getD s i 0) (code ")") e in let l = byte-lt s i (omega arith) in omega arith)
       (λ _. tt)
 
   head-within : (f : List ℕ → Got A) (s : List ℕ) (k : ℕ) (h : Head) → Within (length s) (onHead alg f s k h)
@@ -35,14 +36,14 @@ module _ {A : Type 0} (alg : Algebra A) where
   head-within f s k (is1 o) = then-within (length s) (f (drop k s)) _ (λ a n. closed-within s (k + n) (alg .on1 o a))
   head-within f s k (is2 o) =
       then-within (length s) (f (drop k s)) _
-      (λ a n. cond-case (Within (length s)) (eqb (getD s (k + n) 0) 32) _ _
+      (λ a n. cond-case (Within (length s)) (eqb (getD s (k + n) 0) (code " ")) _ _
       (λ _. then-within (length s) (f (drop (k + n + 1) s)) _ (λ b m. closed-within s (k + n + 1 + m) (alg .on2 o a b)))
       (λ _. tt))
   head-within f s k isNone = tt
 
   arg-with-within : (f : List ℕ → Got A) (s : List ℕ) → Within (length s) (f s) → Within (length s) (argWith alg f s)
   arg-with-within f s h =
-      cond-case (Within (length s)) (eqb (getD s 0 0) 40) _ _ (λ _. h) (λ _. map-within (alg .onLit) (length s) (literal s) (literal-within s))
+      cond-case (Within (length s)) (eqb (getD s 0 0) (code "(")) _ _ (λ _. h) (λ _. map-within (alg .onLit) (length s) (literal s) (literal-within s))
 
   pub arg-within : (d : ℕ) (s : List ℕ) → Within (length s) (arg alg d s)
   unfolding arg

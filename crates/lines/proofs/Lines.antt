@@ -1,8 +1,9 @@
 -- Laws of a line's parts. Assumes nothing.
 use mathlib.Core.Path.{_≡_, refl, sym, ap, _∙_}
 use mathlib.Core.Bool.{Bool, true, false, cond, _||_}
-use mathlib.Core.List.{List, [], _∷_}
+use mathlib.Core.List.{List}
 use Prim.Native.Nat.{ℕ, _+_, _-_, _≤_, _<_}
+use Prim.Native.Char.{code}
 use native.Mathlib.Omega.{arith}
 use native.Mathlib.Numerals.{add-one}
 use lib.Dec.{eqb}
@@ -14,6 +15,7 @@ use mir.Syntax.{w64}
 use mir.Val.{SFits}
 use mir.Facts.{toZ-ofZ}
 use borrow.Author.Tests.{eq-eqb, ne-eqb}
+use Rattle.meaning.specs.Bytes.{bytes}
 use Rattle.meaning.specs.Outcome.{Res, ok, stop}
 use Rattle.meaning.specs.Sheet.{beyond, Form, put, hold, Line, act, farForm, farAct, farLine, crossedAct, crossedLine}
 use Rattle.meaning.specs.Reading.{Got, got, bad, mapGot, andThen, byte, closed, begins, literal, register, arg, tree, onRegister, bounds, value, actOf, lineOf, wholeLine, judged, readLine}
@@ -74,7 +76,7 @@ module _ (held : Bool) (r : ℕ) (lo hi : ℤ) {far : Bool} where
 -- the closing bracket of a whole line
 whole-ends : (s : List ℕ) (i : ℕ) (l : Line) → wholeLine s (closed s i l) ≡ cond (ends s i) (ok l) (stop 6)
 unfolding wholeLine closed ends
-whole-ends s i l = by-test (eqb (getD s i 0) 41) (λ e. rw e) (λ e. rw e)
+whole-ends s i l = by-test (eqb (getD s i 0) (code ")")) (λ e. rw e) (λ e. rw e)
 
 -- such a line judged by its literals
 range-judged : (s : List ℕ) (held : Bool) (r : ℕ) (z z′ : ℤ) → lineFrom s (rangeLine held r (kept z) (kept z′) (beyond z || beyond z′)) ≡ judged (ok (ranged held r z z′))
@@ -101,11 +103,11 @@ module _ (s : List ℕ) (held : Bool) (r i : ℕ) {t : List ℕ} {a : Literal} (
   bounds-bad e = rw (← et, literal-bad (literal t) ea e)
 
   module _ {v : ℤ} {far : Bool} {n : ℕ} (ga : a ≡ literal.Is v far n) {b : ℕ} (eb : b ≡ getD s (i + n) 0) where
-    pub bounds-no-space : (b ≡ 32 → ⊥) → Judged (line.Refused 6)
+    pub bounds-no-space : (b ≡ code " " → ⊥) → Judged (line.Refused 6)
     unfolding bounds wholeLine judged
     bounds-no-space ne = rw (← et, literal-is (literal t) ea ga .1, ← eb, ne-eqb _ _ ne)
 
-    module _ (sp : b ≡ 32) {t′ : List ℕ} {a′ : Literal} (et′ : t′ ≡ drop (i + n + 1) s) (ea′ : a′ ≡ literalOf (literal t′)) where
+    module _ (sp : b ≡ code " ") {t′ : List ℕ} {a′ : Literal} (et′ : t′ ≡ drop (i + n + 1) s) (ea′ : a′ ≡ literalOf (literal t′)) where
       pub bounds-second-bad : a′ ≡ literal.Bad → Judged (line.Refused 6)
       unfolding bounds wholeLine judged
       bounds-second-bad e = rw (← et, literal-is (literal t) ea ga .1, ← eb, eq-eqb _ _ sp, ← et′, literal-bad (literal t′) ea′ e)
@@ -186,19 +188,19 @@ module _ (s : List ℕ) (kind : Kind) (k : ℕ) {t : List ℕ} {g : Got ℕ} (et
   kind-no-register e = rw (← et, sym eg ∙ e)
 
   module _ {r n : ℕ} (go : g ≡ got r n) {b : ℕ} (eb : b ≡ getD s (k + n) 0) where
-    pub kind-no-space : (b ≡ 32 → ⊥) → stop 6 ≡ judged (wholeLine s (onRegister s k (body kind s)))
+    pub kind-no-space : (b ≡ code " " → ⊥) → stop 6 ≡ judged (wholeLine s (onRegister s k (body kind s)))
     unfolding wholeLine judged
     kind-no-space ne = rw (← et, sym eg ∙ go, ← eb, ne-eqb _ _ ne)
 
-    pub kind-body : b ≡ 32 → judged (wholeLine s (body kind s r (k + n + 1))) ≡ judged (wholeLine s (onRegister s k (body kind s)))
+    pub kind-body : b ≡ code " " → judged (wholeLine s (body kind s r (k + n + 1))) ≡ judged (wholeLine s (onRegister s k (body kind s)))
     kind-body sp = rw (← et, sym eg ∙ go, ← eb, eq-eqb _ _ sp)
 
 -- ---- the whole line
 
 map-register : {A B : Type 0} (f : A → B) (s : List ℕ) (k : ℕ) (p : ℕ → ℕ → Got A) (q : ℕ → ℕ → Got B) → ((r i : ℕ) → mapGot f (p r i) ≡ q r i) → mapGot f (onRegister s k p) ≡ onRegister s k q
 map-register f s k p q h =
-    map-any f (register (drop k s)) (λ r n. byte s (k + n) 32 (p r (k + n + 1))) (λ r n. byte s (k + n) 32 (q r (k + n + 1)))
-    (λ r n. map-cond f (eqb (getD s (k + n) 0) 32) (p r (k + n + 1)) bad (q r (k + n + 1)) bad (h r (k + n + 1)) refl)
+    map-any f (register (drop k s)) (λ r n. byte s (k + n) (code " ") (p r (k + n + 1))) (λ r n. byte s (k + n) (code " ") (q r (k + n + 1)))
+    (λ r n. map-cond f (eqb (getD s (k + n) 0) (code " ")) (p r (k + n + 1)) bad (q r (k + n + 1)) bad (h r (k + n + 1)) refl)
 
 map-put : (s : List ℕ) (r i : ℕ) → mapGot act (value tree (put r) 7 s i) ≡ body kind.Put s r i
 unfolding value body
@@ -209,28 +211,28 @@ map-put s r i =
 map-hold : (s : List ℕ) (r i : ℕ) → mapGot act (bounds (hold r) s i) ≡ body kind.Hold s r i
 unfolding bounds body
 map-hold s r i =
-    map-any act (literal (drop i s)) (λ lo n. byte s (i + n) 32 (andThen (literal (drop (i + n + 1) s)) (λ hi m. closed s (i + n + 1 + m) (hold r lo hi))))
-    (λ lo n. byte s (i + n) 32 (andThen (literal (drop (i + n + 1) s)) (λ hi m. closed s (i + n + 1 + m) (act (hold r lo hi)))))
-    (λ lo n. map-cond act (eqb (getD s (i + n) 0) 32)
+    map-any act (literal (drop i s)) (λ lo n. byte s (i + n) (code " ") (andThen (literal (drop (i + n + 1) s)) (λ hi m. closed s (i + n + 1 + m) (hold r lo hi))))
+    (λ lo n. byte s (i + n) (code " ") (andThen (literal (drop (i + n + 1) s)) (λ hi m. closed s (i + n + 1 + m) (act (hold r lo hi)))))
+    (λ lo n. map-cond act (eqb (getD s (i + n) 0) (code " "))
     (andThen (literal (drop (i + n + 1) s)) (λ hi m. closed s (i + n + 1 + m) (hold r lo hi))) bad
     (andThen (literal (drop (i + n + 1) s)) (λ hi m. closed s (i + n + 1 + m) (act (hold r lo hi)))) bad
     (map-any act (literal (drop (i + n + 1) s)) (λ hi m. closed s (i + n + 1 + m) (hold r lo hi)) (λ hi m. closed s (i + n + 1 + m) (act (hold r lo hi)))
     (λ hi m. map-closed act s (i + n + 1 + m) (hold r lo hi) (act (hold r lo hi)) refl))
     refl)
 
-module _ (s : List ℕ) {x : Bool} (ex : x ≡ begins (40 ∷ 105 ∷ 110 ∷ 32 ∷ []) s) where
+module _ (s : List ℕ) {x : Bool} (ex : x ≡ begins (bytes "(in ") s) where
   pub line-in : x ≡ true → judged (wholeLine s (onRegister s 4 (body kind.In s))) ≡ readLine s
   unfolding readLine lineOf body
   line-in e = rw (sym ex ∙ e)
 
-  module _ (n : x ≡ false) {y : Bool} (ey : y ≡ begins (40 ∷ 112 ∷ 117 ∷ 116 ∷ 32 ∷ []) s) where
+  module _ (n : x ≡ false) {y : Bool} (ey : y ≡ begins (bytes "(put ") s) where
     pub line-put : y ≡ true → judged (wholeLine s (onRegister s 5 (body kind.Put s))) ≡ readLine s
     unfolding readLine lineOf actOf
     line-put e =
         rw (sym ex ∙ n, sym ey ∙ e)
         (ap (λ (g : Got Line). judged (wholeLine s g)) (sym (map-register act s 5 (λ r i. value tree (put r) 7 s i) (body kind.Put s) (λ r i. map-put s r i))))
 
-    module _ (m : y ≡ false) {z : Bool} (ez : z ≡ begins (40 ∷ 104 ∷ 111 ∷ 108 ∷ 100 ∷ 32 ∷ []) s) where
+    module _ (m : y ≡ false) {z : Bool} (ez : z ≡ begins (bytes "(hold ") s) where
       pub line-hold : z ≡ true → judged (wholeLine s (onRegister s 6 (body kind.Hold s))) ≡ readLine s
       unfolding readLine lineOf actOf
       line-hold e =

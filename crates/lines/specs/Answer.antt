@@ -6,6 +6,7 @@ use lib.ListN.{length, getD, drop}
 use mathlib.Core.Bool.{Bool, true, false, cond, _&&_}
 use mathlib.Core.List.{List}
 use Prim.Native.Nat.{ℕ, _+_}
+use Prim.Native.Char.{code}
 use Rattle.meaning.specs.Refusals.{ungrammatical, farLiteral}
 use Rattle.meaning.specs.Outcome.{Res, ok, stop}
 use Rattle.meaning.specs.Sheet.{Form, put, hold, Line, input, act}
@@ -17,7 +18,7 @@ use Rattle.lines.specs.declared.LineForm.the-variants as line
 
 -- the closing bracket is at i, and nothing stands behind it
 unfoldable pub ends : List ℕ → ℕ → Bool
-ends s i = eqb (getD s i 0) 41 && eqb (i + 1) (length s)
+ends s i = eqb (getD s i 0) (code ")") && eqb (i + 1) (length s)
 
 -- (in R LO HI) or (hold R LO HI)
 abbrev pub ranged : Bool → ℕ → ℤ → ℤ → Line

@@ -7,6 +7,7 @@ use mathlib.Core.List.{List, [], _∷_, _++_}
 use Prim.Native.Nat.{ℕ, zero, suc, _+_, _*_, _/_, _%_, _≤_, _<_}
 use native.Mathlib.Omega.{arith}
 use Rattle.meaning.specs.Refusals.{zeroDivisor}
+use Rattle.meaning.specs.Bytes.{bytes}
 use Rattle.meaning.specs.Outcome.{Outcome, done, stopped}
 use Rattle.meaning.specs.NumberIntervals.{Set, Normal}
 use Rattle.meaning.specs.Sheet.{registers, Line}
@@ -46,14 +47,14 @@ decimal-any n = omega (arith, digits-any 20 n [])
 pub trouble-most : (k l : ℕ) → length (troubleLine k l) ≤ longest
 unfolding troubleLine
 trouble-most k l =
-    let w : List ℕ = cond (ltb k zeroDivisor) (114 ∷ 101 ∷ 102 ∷ 117 ∷ 115 ∷ 101 ∷ 100 ∷ []) (115 ∷ 116 ∷ 111 ∷ 112 ∷ []) in
-    let h = cond-case (λ (x : List ℕ). length x ≤ 7) (ltb k zeroDivisor) (114 ∷ 101 ∷ 102 ∷ 117 ∷ 115 ∷ 101 ∷ 100 ∷ []) (115 ∷ 116 ∷ 111 ∷ 112 ∷ []) (λ t. omega arith) (λ t. omega arith) in
+    let w : List ℕ = cond (ltb k zeroDivisor) (bytes "refused") (bytes "stop") in
+    let h = cond-case (λ (x : List ℕ). length x ≤ 7) (ltb k zeroDivisor) (bytes "refused") (bytes "stop") (λ t. omega arith) (λ t. omega arith) in
     omega (
       arith,
       h,
-      length-append w (32 ∷ decimal k ++ (32 ∷ decimal l ++ 10 ∷ [])),
-      length-append (decimal k) (32 ∷ decimal l ++ 10 ∷ []),
-      length-append (decimal l) (10 ∷ []),
+      length-append w (bytes " " ++ decimal k ++ (bytes " " ++ decimal l ++ bytes "\n")),
+      length-append (decimal k) (bytes " " ++ decimal l ++ bytes "\n"),
+      length-append (decimal l) (bytes "\n"),
       decimal-any k,
       decimal-any l,
     )
@@ -67,7 +68,7 @@ intervals-most (i ∷ s) p =
     let q = p .0 in
     omega (
       arith,
-      length-append (decimalZ (i .lo)) (46 ∷ 46 ∷ decimalZ (i .hi) ++ intervalTexts s),
+      length-append (decimalZ (i .lo)) (bytes ".." ++ decimalZ (i .hi) ++ intervalTexts s),
       length-append (decimalZ (i .hi)) (intervalTexts s),
       decimalZ-most (i .lo) (between (q .low) (≤ℤ-trans (q .ordered) (q .high))),
       decimalZ-most (i .hi) (between (≤ℤ-trans (q .low) (q .ordered)) (q .high)),
@@ -79,8 +80,8 @@ unfolding registerLine
 line-most r s h n k =
     omega (
       arith,
-      length-append (decimal r) (intervalTexts s ++ 10 ∷ []),
-      length-append (intervalTexts s) (10 ∷ []),
+      length-append (decimal r) (intervalTexts s ++ bytes "\n"),
+      length-append (intervalTexts s) (bytes "\n"),
       decimal-most 2 r (omega arith) (omega arith),
       intervals-most s (normal-proper s n),
     )
@@ -96,7 +97,7 @@ lines-most ls {B} h (suc n) r k =
 
 pass-most : (n : ℕ) → n ≤ 256 → length (passLine n) ≤ 9
 unfolding passLine
-pass-most n h = omega (arith, length-append (decimal n) (10 ∷ []), decimal-most 3 n (omega arith) (omega arith))
+pass-most n h = omega (arith, length-append (decimal n) (bytes "\n"), decimal-most 3 n (omega arith) (omega arith))
 
 pub listing-most : (t : List ℕ) → length (listing t) ≤ longest
 unfolding listing readText outcomeText checkText

@@ -9,6 +9,7 @@ use Prim.Native.Nat.{ℕ, suc, _+_, _*_, _≤_, _<_}
 use native.Mathlib.Omega.{arith}
 use borrow.Author.Tests.{leb-true, leb-false}
 use Rattle.meaning.specs.Refusals.{misshapen}
+use Rattle.meaning.specs.Bytes.{LF}
 use Rattle.meaning.specs.Text.{front, splitLines, lines, narrow, shaped, nothingSeen, noSheet, readLines, read}
 use Rattle.meaning.specs.Listing.{readText, listing}
 use Rattle.meaning.proofs.Integers.{by-test, and-both, if-no}
@@ -22,7 +23,7 @@ bytesOf (l ∷ ls) = suc (length l) + bytesOf ls
 split-length : (t : List ℕ) → length t ≡ bytesOf (lines t) + length (splitLines t .rest)
 unfolding splitLines
 split-length [] = refl
-split-length (b ∷ t) = go (eqb b 10) (lines t) (splitLines t .rest) (split-length t)
+split-length (b ∷ t) = go (eqb b LF) (lines t) (splitLines t .rest) (split-length t)
   where
     go : (q : Bool) (ls : List (List ℕ)) (r : List ℕ) → length t ≡ bytesOf ls + length r
         → (let s = cond q (record { lines = [] ∷ ls; rest = r }) (front b ls r) in suc (length t) ≡ bytesOf (s .lines) + length (s .rest))

@@ -3,6 +3,7 @@ use mathlib.Core.Path.{_≡_, refl, sym, ap, _∙_}
 use mathlib.Core.Bool.{Bool, true, false}
 use mathlib.Core.List.{List, [], _∷_}
 use Prim.Native.Nat.{ℕ, zero, suc, _+_, _-_, _*_, _/_, _^_, _≤_, _<_, min}
+use Prim.Native.Char.{code}
 use native.Mathlib.Omega.{arith}
 use native.Mathlib.Numerals.{add-one}
 use lib.Dec.{leb}
@@ -180,13 +181,13 @@ module _ (negated : Bool) (o : ℕ) (s : List ℕ) {i : ℕ} (ei : i ≡ digits 
       whole-is : v ≡ min cap (number 0 (take i s))
       whole-is = ev ∙ ap (capped 0) ea ∙ capped-is (take i s) 0
 
-      pub unsigned-whole : {w : ℕ} → (p ≡ 46 → ⊥) → w ≡ min cap (v * scale 0) → literalOf (got (signed negated w) (o + i)) ≡ literalOf (unsigned negated o s (digits s))
+      pub unsigned-whole : {w : ℕ} → (p ≡ code "." → ⊥) → w ≡ min cap (v * scale 0) → literalOf (got (signed negated w) (o + i)) ≡ literalOf (unsigned negated o s (digits s))
       unfolding unsigned
       unsigned-whole np ew =
           held negated 0 (number 0 (take i s)) (o + i) whole-is ew
           ∙ rw (← ei, ne-eqb _ _ nz, sym eb ∙ e, ← ep, ne-eqb _ _ np)
 
-      module _ (yp : p ≡ 46) {t : List ℕ} (et : t ≡ drop (i + 1) s) {d : ℕ} (ed : d ≡ digits t) where
+      module _ (yp : p ≡ code ".") {t : List ℕ} (et : t ≡ drop (i + 1) s) {d : ℕ} (ed : d ≡ digits t) where
         decimals-is : unsigned negated o s (digits s) ≡ decimals negated o s i t d
         unfolding unsigned
         decimals-is = rw (← ei, ne-eqb _ _ nz, sym eb ∙ e, ← ep, eq-eqb _ _ yp, ← et, ← ed)
@@ -207,11 +208,11 @@ module _ (negated : Bool) (o : ℕ) (s : List ℕ) {i : ℕ} (ei : i ≡ digits 
             (ev′ ∙ ap (capped v) el ∙ ap (λ (y : ℕ). capped y (take d t)) whole-is ∙ capped-is (take d t) (number 0 (take i s))) ew
             ∙ rw (decimals-is, ne-eqb _ _ z, le-ltb _ _ h)
 
-pub literal-minus : (s : List ℕ) {b : ℕ} {t : List ℕ} → b ≡ getD s 0 0 → b ≡ 45 → t ≡ drop 1 s → literalOf (unsigned true 1 t (digits t)) ≡ literalOf (literal s)
+pub literal-minus : (s : List ℕ) {b : ℕ} {t : List ℕ} → b ≡ getD s 0 0 → b ≡ code "-" → t ≡ drop 1 s → literalOf (unsigned true 1 t (digits t)) ≡ literalOf (literal s)
 unfolding literal
 literal-minus s eb h et = rw (← eb, eq-eqb _ _ h, ← et)
 
-pub literal-plus : (s : List ℕ) {b : ℕ} → b ≡ getD s 0 0 → (b ≡ 45 → ⊥) → literalOf (unsigned false 0 s (digits s)) ≡ literalOf (literal s)
+pub literal-plus : (s : List ℕ) {b : ℕ} → b ≡ getD s 0 0 → (b ≡ code "-" → ⊥) → literalOf (unsigned false 0 s (digits s)) ≡ literalOf (literal s)
 unfolding literal
 literal-plus s eb h = rw (← eb, ne-eqb _ _ h)
 

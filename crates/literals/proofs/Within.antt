@@ -3,6 +3,7 @@ use mathlib.Core.Path.{_≡_, refl, subst}
 use mathlib.Core.Bool.{Bool, true, false, cond}
 use mathlib.Core.List.{List, [], _∷_}
 use Prim.Native.Nat.{ℕ, zero, suc, _+_, _*_, _-_, _≤_, _<_}
+use Prim.Native.Char.{code}
 use native.Mathlib.Omega.{arith}
 use lib.Dec.{eqb, ltb}
 use lib.IntN.{ℤ}
@@ -45,20 +46,20 @@ unfolding unsigned decimals
 unsigned-within negated o s =
     let i : ℕ = digits s in
     let d : ℕ = digits (drop (i + 1) s) in
-    unsigned-by (eqb i 0) (needless s i) (eqb (getD s i 0) 46) (eqb d 0) (ltb 3 d)
+    unsigned-by (eqb i 0) (needless s i) (eqb (getD s i 0) (code ".")) (eqb d 0) (ltb 3 d)
     (signed negated (number (number 0 (take i s)) (take d (drop (i + 1) s)) * scale d)) (signed negated (number 0 (take i s) * scale 0)) {L = o + length s} {n = o + i} {m = o + i + 1 + d}
     (omega (arith, digits-le s))
     (λ e.
-    let h : getD s i 0 ≡ 46 = eqb-true (getD s i 0) 46 e in
+    let h : getD s i 0 ≡ code "." = eqb-true (getD s i 0) (code ".") e in
     let l = byte-lt s i (omega arith) in
     omega (arith, digits-le (drop (i + 1) s), length-drop (i + 1) s))
 
 pub literal-within : (s : List ℕ) → Within (length s) (literal s)
 unfolding literal
 literal-within s =
-    cond-case (Within (length s)) (eqb (getD s 0 0) 45) (unsigned true 1 (drop 1 s) (digits (drop 1 s))) (unsigned false 0 s (digits s))
+    cond-case (Within (length s)) (eqb (getD s 0 0) (code "-")) (unsigned true 1 (drop 1 s) (digits (drop 1 s))) (unsigned false 0 s (digits s))
     (λ e.
-    let h : getD s 0 0 ≡ 45 = eqb-true (getD s 0 0) 45 e in
+    let h : getD s 0 0 ≡ code "-" = eqb-true (getD s 0 0) (code "-") e in
     let l = byte-lt s 0 (omega arith) in
     within-le (unsigned true 1 (drop 1 s) (digits (drop 1 s))) (omega (arith, length-drop 1 s)) (unsigned-within true 1 (drop 1 s)))
     (λ e. within-le (unsigned false 0 s (digits s)) (omega arith) (unsigned-within false 0 s))

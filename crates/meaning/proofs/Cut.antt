@@ -9,6 +9,7 @@ use native.Mathlib.Nat.{le-of-suc-le-suc}
 use native.Mathlib.Omega.{arith}
 use borrow.Author.Tests.{eqb-true, eqb-false, leb-true, le-leb}
 use Rattle.meaning.specs.Lists.{All}
+use Rattle.meaning.specs.Bytes.{LF}
 use Rattle.meaning.specs.Refusals.{misshapen}
 use Rattle.meaning.specs.Outcome.{Res, ok, stop}
 use Rattle.meaning.specs.Sheet.{Line}
@@ -33,7 +34,7 @@ unfolding splitLines cut
 lines-cut [] zero = refl
 lines-cut [] (suc n) = refl
 lines-cut (b ∷ t) zero = refl
-lines-cut (b ∷ t) (suc n) = go (eqb b 10) (λ m. lines-cut t m)
+lines-cut (b ∷ t) (suc n) = go (eqb b LF) (λ m. lines-cut t m)
   where
     go : (q : Bool) → ((m : ℕ) → lines (cut t m) ≡ take m (lines t))
         → (let s = splitLines (cut t (cond q n (suc n))) in cond q (record { lines = [] ∷ s .lines; rest = s .rest }) (front b (s .lines) (s .rest))) .lines
@@ -58,7 +59,7 @@ unfolding splitLines cut
 rest-cut [] zero e = refl
 rest-cut [] (suc n) e = refl
 rest-cut (b ∷ t) zero e = refl
-rest-cut (b ∷ t) (suc n) e = go (eqb b 10) e (λ m h. rest-cut t m h)
+rest-cut (b ∷ t) (suc n) e = go (eqb b LF) e (λ m h. rest-cut t m h)
   where
     go : (q : Bool) → cond q (record { lines = [] ∷ lines t; rest = splitLines t .rest }) (front b (lines t) (splitLines t .rest)) .rest ≡ []
         → ((m : ℕ) → splitLines t .rest ≡ [] → splitLines (cut t m) .rest ≡ [])
@@ -73,9 +74,9 @@ rest-cut (b ∷ t) (suc n) e = go (eqb b 10) e (λ m h. rest-cut t m h)
 pub cut-all : (t : List ℕ) → splitLines t .rest ≡ [] → cut t (length (lines t)) ≡ t
 unfolding splitLines cut
 cut-all [] e = refl
-cut-all (b ∷ t) e = go (eqb b 10) refl e (cut-all t)
+cut-all (b ∷ t) e = go (eqb b LF) refl e (cut-all t)
   where
-    go : (q : Bool) → eqb b 10 ≡ q → cond q (record { lines = [] ∷ lines t; rest = splitLines t .rest }) (front b (lines t) (splitLines t .rest)) .rest ≡ []
+    go : (q : Bool) → eqb b LF ≡ q → cond q (record { lines = [] ∷ lines t; rest = splitLines t .rest }) (front b (lines t) (splitLines t .rest)) .rest ≡ []
         → (splitLines t .rest ≡ [] → cut t (length (lines t)) ≡ t)
         → cut (b ∷ t) (length (cond q (record { lines = [] ∷ lines t; rest = splitLines t .rest }) (front b (lines t) (splitLines t .rest)) .lines)) ≡ b ∷ t
     go true h e ih = rw h (ap {B = List ℕ} (λ u. b ∷ u) (ih e))
@@ -93,24 +94,24 @@ cut-none [] = refl
 cut-none (b ∷ t) = refl
 
 -- one line more
-cut-next : (t : List ℕ) (n : ℕ) → n < length (lines t) → cut t (suc n) ≡ cut t n ++ (getD (lines t) n [] ++ 10 ∷ [])
+cut-next : (t : List ℕ) (n : ℕ) → n < length (lines t) → cut t (suc n) ≡ cut t n ++ (getD (lines t) n [] ++ LF ∷ [])
 unfolding splitLines cut
 cut-next [] n h = absurd (let x : ⊥ = omega arith in x)
-cut-next (b ∷ t) n h = go n (eqb b 10) refl h (λ m k. cut-next t m k)
+cut-next (b ∷ t) n h = go n (eqb b LF) refl h (λ m k. cut-next t m k)
   where
     Next : ℕ → List (List ℕ) → List ℕ → Type 0
-    Next n ls u = cut u (suc n) ≡ cut u n ++ (getD ls n [] ++ 10 ∷ [])
+    Next n ls u = cut u (suc n) ≡ cut u n ++ (getD ls n [] ++ LF ∷ [])
 
-    feed : (n : ℕ) → eqb b 10 ≡ true → n < suc (length (lines t)) → ((m : ℕ) → m < length (lines t) → Next m (lines t) t) → Next n ([] ∷ lines t) (b ∷ t)
-    feed zero q h ih = rw (q, cut-none t) (ap {B = List ℕ} (λ x. x ∷ []) (eqb-true b 10 q))
+    feed : (n : ℕ) → eqb b LF ≡ true → n < suc (length (lines t)) → ((m : ℕ) → m < length (lines t) → Next m (lines t) t) → Next n ([] ∷ lines t) (b ∷ t)
+    feed zero q h ih = rw (q, cut-none t) (ap {B = List ℕ} (λ x. x ∷ []) (eqb-true b LF q))
     feed (suc m) q h ih = rw q (ap {B = List ℕ} (λ u. b ∷ u) (ih m (le-of-suc-le-suc h)))
 
-    other : (n : ℕ) (ls : List (List ℕ)) (r : List ℕ) → eqb b 10 ≡ false → n < length (front b ls r .lines) → ((m : ℕ) → m < length ls → Next m ls t) → Next n (front b ls r .lines) (b ∷ t)
+    other : (n : ℕ) (ls : List (List ℕ)) (r : List ℕ) → eqb b LF ≡ false → n < length (front b ls r .lines) → ((m : ℕ) → m < length ls → Next m ls t) → Next n (front b ls r .lines) (b ∷ t)
     other n [] r q h ih = absurd (let x : ⊥ = omega arith in x)
-    other zero (l ∷ ls) r q h ih = rw q (ap {B = List ℕ} (λ u. b ∷ u) (ih 0 h ∙ ap (λ u. u ++ (l ++ 10 ∷ [])) (cut-none t)))
+    other zero (l ∷ ls) r q h ih = rw q (ap {B = List ℕ} (λ u. b ∷ u) (ih 0 h ∙ ap (λ u. u ++ (l ++ LF ∷ [])) (cut-none t)))
     other (suc m) (l ∷ ls) r q h ih = rw q (ap {B = List ℕ} (λ u. b ∷ u) (ih (suc m) h))
 
-    go : (n : ℕ) (q : Bool) → eqb b 10 ≡ q → n < length (cond q (record { lines = [] ∷ lines t; rest = splitLines t .rest }) (front b (lines t) (splitLines t .rest)) .lines)
+    go : (n : ℕ) (q : Bool) → eqb b LF ≡ q → n < length (cond q (record { lines = [] ∷ lines t; rest = splitLines t .rest }) (front b (lines t) (splitLines t .rest)) .lines)
         → ((m : ℕ) → m < length (lines t) → Next m (lines t) t)
         → Next n (cond q (record { lines = [] ∷ lines t; rest = splitLines t .rest }) (front b (lines t) (splitLines t .rest)) .lines) (b ∷ t)
     go n true q h ih = feed n q h ih
@@ -118,20 +119,20 @@ cut-next (b ∷ t) n h = go n (eqb b 10) refl h (λ m k. cut-next t m k)
 
 -- no line has an LF in it
 abbrev Plain : List ℕ → Type 0
-Plain l = All (λ b. b ≡ 10 → ⊥) l
+Plain l = All (λ b. b ≡ LF → ⊥) l
 
 lines-plain : (t : List ℕ) → All Plain (lines t)
 unfolding splitLines
 lines-plain [] = tt
-lines-plain (b ∷ t) = go (eqb b 10) refl (lines-plain t)
+lines-plain (b ∷ t) = go (eqb b LF) refl (lines-plain t)
   where
-    other : (ls : List (List ℕ)) (r : List ℕ) → (b ≡ 10 → ⊥) → All Plain ls → All Plain (front b ls r .lines)
+    other : (ls : List (List ℕ)) (r : List ℕ) → (b ≡ LF → ⊥) → All Plain ls → All Plain (front b ls r .lines)
     other [] r n p = tt
     other (l ∷ ls) r n p = ((n, p .0), p .1)
 
-    go : (q : Bool) → eqb b 10 ≡ q → All Plain (lines t) → All Plain (cond q (record { lines = [] ∷ lines t; rest = splitLines t .rest }) (front b (lines t) (splitLines t .rest)) .lines)
+    go : (q : Bool) → eqb b LF ≡ q → All Plain (lines t) → All Plain (cond q (record { lines = [] ∷ lines t; rest = splitLines t .rest }) (front b (lines t) (splitLines t .rest)) .lines)
     go true q p = (tt, p)
-    go false q p = other (lines t) (splitLines t .rest) (eqb-false b 10 q) p
+    go false q p = other (lines t) (splitLines t .rest) (eqb-false b LF q) p
 
 plain-at : (ls : List (List ℕ)) (n : ℕ) → All Plain ls → Plain (getD ls n [])
 plain-at [] n p = tt
@@ -142,7 +143,7 @@ plain-at (l ∷ ls) (suc n) p = plain-at ls n (p .1)
 lines-feeds : (t : List ℕ) → length (lines t) ≡ feeds t
 unfolding splitLines
 lines-feeds [] = refl
-lines-feeds (b ∷ t) = go (eqb b 10) (lines-feeds t)
+lines-feeds (b ∷ t) = go (eqb b LF) (lines-feeds t)
   where
     front-long : (ls : List (List ℕ)) (r : List ℕ) → length (front b ls r .lines) ≡ length ls
     front-long [] r = refl
@@ -158,7 +159,7 @@ pub cut-past : (t : List ℕ) (n : ℕ) → feeds t < n → cut t n ≡ t
 unfolding cut
 cut-past [] n h = refl
 cut-past (b ∷ t) zero h = absurd (let x : ⊥ = omega arith in x)
-cut-past (b ∷ t) (suc n) h = ap {B = List ℕ} (λ u. b ∷ u) (go (eqb b 10) h (cut-past t))
+cut-past (b ∷ t) (suc n) h = ap {B = List ℕ} (λ u. b ∷ u) (go (eqb b LF) h (cut-past t))
   where
     go : (q : Bool) → cond q (suc (feeds t)) (feeds t) < suc n → ((m : ℕ) → feeds t < m → cut t m ≡ t) → cut t (cond q n (suc n)) ≡ t
     go true h ih = ih n (le-of-suc-le-suc h)

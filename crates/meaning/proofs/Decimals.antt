@@ -6,6 +6,7 @@ use mathlib.Core.Path.{_≡_, refl, sym, ap, _∙_, subst}
 use mathlib.Core.Bool.{true, false, cond}
 use mathlib.Core.List.{List, [], _∷_}
 use Prim.Native.Nat.{ℕ, zero, suc, _+_, _-_, _*_, _/_, _%_, _^_, _≤_, _<_}
+use Prim.Native.Char.{code}
 use native.Mathlib.Nat.{pow-suc}
 use native.Mathlib.Omega.{arith}
 use borrow.Author.Tests.{ltb-true, ltb-false, eqb-true, leb-true, le-leb, ne-eqb}
@@ -110,11 +111,11 @@ decimal-lead n h =
 -- ---- signed numbers: a minus, or none, and the digits
 
 abbrev pub signedNumber : List ℕ → ℤ
-signedNumber s = cond (eqb (getD s 0 0) 45) (signed true (number 0 (drop 1 s))) (signed false (number 0 s))
+signedNumber s = cond (eqb (getD s 0 0) (code "-")) (signed true (number 0 (drop 1 s))) (signed false (number 0 s))
 
-first-digit : (l : List ℕ) → 1 ≤ length l → All Digit l → eqb (getD l 0 0) 45 ≡ false
+first-digit : (l : List ℕ) → 1 ≤ length l → All Digit l → eqb (getD l 0 0) (code "-") ≡ false
 first-digit [] h p = absurd (let x : ⊥ = omega arith in x)
-first-digit (b ∷ l) h p = ne-eqb b 45 (λ e. let k = leb-true 48 b (and-both (leb 48 b) (leb b 57) (p .0) .0) in omega arith)
+first-digit (b ∷ l) h p = ne-eqb b (code "-") (λ e. let k = leb-true 48 b (and-both (leb 48 b) (leb b 57) (p .0) .0) in omega arith)
 
 pub decimalZ-read : (z : ℤ) → natAbs z < 10 ^ 20 → signedNumber (decimalZ z) ≡ z
 unfolding decimalZ

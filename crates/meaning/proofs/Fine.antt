@@ -8,9 +8,11 @@ use mathlib.Core.Path.{_≡_, refl, sym, ap, _∙_, subst}
 use mathlib.Core.Bool.{Bool, true, false, cond, _||_}
 use mathlib.Core.List.{List, [], _∷_}
 use Prim.Native.Nat.{ℕ, suc, _+_, _<_}
+use Prim.Native.Char.{code}
 use borrow.Author.Tests.{not-false, eq-eqb}
 use Rattle.meaning.specs.Refusals.{ungrammatical, farLiteral, misplaced}
 use Rattle.meaning.specs.Lists.{All}
+use Rattle.meaning.specs.Bytes.{bytes}
 use Rattle.meaning.specs.Outcome.{ok, stop}
 use Rattle.meaning.specs.Number.{MIN, MAX, within, InRange}
 use Rattle.meaning.specs.Sheet.{registers, Form, Act, put, hold, Line, input, act, beyond, farForm, farAct, farLine, crossedAct, crossedLine, FineForm, FineRange, FineAct, FineLine}
@@ -37,7 +39,7 @@ gives-byte P s i b g p = gives-cond P (eqb (getD s i 0) b) g bad p tt
 
 gives-closed : {A : Type 0} (P : A → Type 0) (s : List ℕ) (i : ℕ) (a : A) → P a → Gives P (closed s i a)
 unfolding closed
-gives-closed P s i a p = gives-byte P s i 41 (got a (i + 1)) p
+gives-closed P s i a p = gives-byte P s i (code ")") (got a (i + 1)) p
 
 gives-then : {A B : Type 0} (P : A → Type 0) (Q : B → Type 0) (g : Got A) (k : A → ℕ → Got B) → Gives P g → ((a : A) (n : ℕ) → P a → Gives Q (k a n)) → Gives Q (andThen g k)
 gives-then P Q (got a n) k p h = h a n p
@@ -60,8 +62,8 @@ gives-register t = go (register t) refl
 
 gives-on-register : {A : Type 0} (P : A → Type 0) (s : List ℕ) (i : ℕ) (rest : ℕ → ℕ → Got A) → ((r n : ℕ) → r < registers → Gives P (rest r n)) → Gives P (onRegister s i rest)
 gives-on-register P s i rest h =
-    gives-then (λ r. r < registers) P (register (drop i s)) (λ r n. byte s (i + n) 32 (rest r (i + n + 1))) (gives-register (drop i s))
-    (λ r n b. gives-byte P s (i + n) 32 (rest r (i + n + 1)) (h r (i + n + 1) b))
+    gives-then (λ r. r < registers) P (register (drop i s)) (λ r n. byte s (i + n) (code " ") (rest r (i + n + 1))) (gives-register (drop i s))
+    (λ r n b. gives-byte P s (i + n) (code " ") (rest r (i + n + 1)) (h r (i + n + 1) b))
 
 -- ---- forms
 
@@ -93,8 +95,8 @@ fine-range r lo hi h e f =
 gives-bounds : {A : Type 0} (P : A → Type 0) (make : ℤ → ℤ → A) (s : List ℕ) (i : ℕ) → ((lo hi : ℤ) → P (make lo hi)) → Gives P (bounds make s i)
 unfolding bounds
 gives-bounds P make s i h =
-    gives-any P (literal (drop i s)) (λ lo n. byte s (i + n) 32 (andThen (literal (drop (i + n + 1) s)) (λ hi m. closed s (i + n + 1 + m) (make lo hi))))
-    (λ lo n. gives-byte P s (i + n) 32 (andThen (literal (drop (i + n + 1) s)) (λ hi m. closed s (i + n + 1 + m) (make lo hi)))
+    gives-any P (literal (drop i s)) (λ lo n. byte s (i + n) (code " ") (andThen (literal (drop (i + n + 1) s)) (λ hi m. closed s (i + n + 1 + m) (make lo hi))))
+    (λ lo n. gives-byte P s (i + n) (code " ") (andThen (literal (drop (i + n + 1) s)) (λ hi m. closed s (i + n + 1 + m) (make lo hi)))
     (gives-any P (literal (drop (i + n + 1) s)) (λ hi m. closed s (i + n + 1 + m) (make lo hi)) (λ hi m. gives-closed P s (i + n + 1 + m) (make lo hi) (h lo hi))))
 
 abbrev ActFine : Act → Type 0
@@ -113,10 +115,10 @@ gives-hold s r i h = gives-bounds ActFine (hold r) s i (λ lo hi. fine-range r l
 gives-act : (d : ℕ) (s : List ℕ) → Gives ActFine (actOf d s)
 unfolding actOf
 gives-act d s =
-    gives-cond ActFine (begins (40 ∷ 112 ∷ 117 ∷ 116 ∷ 32 ∷ []) s) (onRegister s 5 (λ r i. value tree (put r) d s i))
-    (cond (begins (40 ∷ 104 ∷ 111 ∷ 108 ∷ 100 ∷ 32 ∷ []) s) (onRegister s 6 (λ r i. bounds (hold r) s i)) bad)
+    gives-cond ActFine (begins (bytes "(put ") s) (onRegister s 5 (λ r i. value tree (put r) d s i))
+    (cond (begins (bytes "(hold ") s) (onRegister s 6 (λ r i. bounds (hold r) s i)) bad)
     (gives-on-register ActFine s 5 (λ r i. value tree (put r) d s i) (λ r i h. gives-put d s r i h))
-    (gives-cond ActFine (begins (40 ∷ 104 ∷ 111 ∷ 108 ∷ 100 ∷ 32 ∷ []) s) (onRegister s 6 (λ r i. bounds (hold r) s i)) bad
+    (gives-cond ActFine (begins (bytes "(hold ") s) (onRegister s 6 (λ r i. bounds (hold r) s i)) bad
     (gives-on-register ActFine s 6 (λ r i. bounds (hold r) s i) (λ r i h. gives-hold s r i h)) tt)
 
 abbrev LineFine : Line → Type 0
@@ -125,7 +127,7 @@ LineFine l = farLine l ≡ false → crossedLine l ≡ false → FineLine l
 gives-line : (d : ℕ) (s : List ℕ) → Gives LineFine (lineOf d s)
 unfolding lineOf farLine crossedLine FineLine
 gives-line d s =
-    gives-cond LineFine (begins (40 ∷ 105 ∷ 110 ∷ 32 ∷ []) s) (onRegister s 4 (λ r i. bounds (input r) s i)) (mapGot act (actOf d s))
+    gives-cond LineFine (begins (bytes "(in ") s) (onRegister s 4 (λ r i. bounds (input r) s i)) (mapGot act (actOf d s))
     (gives-on-register LineFine s 4 (λ r i. bounds (input r) s i) (λ r i h. gives-bounds LineFine (input r) s i (λ lo hi. fine-range r lo hi h)))
     (gives-map LineFine act (actOf d s) (gives-act d s))
 

@@ -4,6 +4,7 @@ use mathlib.Core.Path.{_≡_, refl, ap, _∙_, subst}
 use mathlib.Core.List.{List}
 use mathlib.Core.Bool.{Bool, true, false, cond, _||_}
 use Prim.Native.Nat.{ℕ, zero, suc, _+_, _<_}
+use Prim.Native.Char.{code}
 use native.Mathlib.Omega.{arith}
 use lib.IntN.{ℤ, pos}
 use lib.ListN.{getD, take, drop}
@@ -54,7 +55,7 @@ map-any f bad k k′ h = refl
 
 pub map-closed : {A B : Type 0} (f : A → B) (s : List ℕ) (i : ℕ) (a : A) (b : B) → f a ≡ b → mapGot f (closed s i a) ≡ closed s i b
 unfolding closed
-map-closed {B} f s i a b e = map-cond f (eqb (getD s i 0) 41) (got a (i + 1)) bad (got b (i + 1)) bad (ap (λ (x : B). got x (i + 1)) e) refl
+map-closed {B} f s i a b e = map-cond f (eqb (getD s i 0) (code ")")) (got a (i + 1)) bad (got b (i + 1)) bad (ap (λ (x : B). got x (i + 1)) e) refl
 
 module _ {A B : Type 0} (f : A → B) (α : Algebra A) (β : Algebra B)
     (on-lit : (z : ℤ) → f (α .onLit z) ≡ β .onLit z) (on-reg : (r : ℕ) → f (α .onReg r) ≡ β .onReg r)
@@ -66,7 +67,7 @@ module _ {A B : Type 0} (f : A → B) (α : Algebra A) (β : Algebra B)
   module _ (p : List ℕ → Got A) (q : List ℕ → Got B) (e : (t : List ℕ) → mapGot f (p t) ≡ q t) where
     fuse-second : (s : List ℕ) (o : Op2) (i : ℕ) (a : A) → mapGot f (second α p s o i a) ≡ second β q s o i (f a)
     fuse-second s o i a =
-        map-cond f (eqb (getD s i 0) 32)
+        map-cond f (eqb (getD s i 0) (code " "))
         (andThen (p (drop (i + 1) s)) (λ b m. closed s (i + 1 + m) (α .on2 o a b))) bad
         (andThen (q (drop (i + 1) s)) (λ b m. closed s (i + 1 + m) (β .on2 o (f a) b))) bad
         (map-then f f (p (drop (i + 1) s)) (λ b m. closed s (i + 1 + m) (α .on2 o a b)) (λ b m. closed s (i + 1 + m) (β .on2 o (f a) b))
@@ -89,7 +90,7 @@ module _ {A B : Type 0} (f : A → B) (α : Algebra A) (β : Algebra B)
 
     fuse-arg-with : (s : List ℕ) → mapGot f (argWith α p s) ≡ argWith β q s
     fuse-arg-with s =
-        map-cond f (eqb (getD s 0 0) 40) (p s) (mapGot (α .onLit) (literal s)) (q s) (mapGot (β .onLit) (literal s)) (e s) (fuse-literal (literal s))
+        map-cond f (eqb (getD s 0 0) (code "(")) (p s) (mapGot (α .onLit) (literal s)) (q s) (mapGot (β .onLit) (literal s)) (e s) (fuse-literal (literal s))
 
   pub fuse-arg : (d : ℕ) (s : List ℕ) → mapGot f (arg α d s) ≡ arg β d s
   unfolding arg
@@ -124,7 +125,7 @@ rel-then R R′ bad bad k k′ e h = tt
 
 pub rel-closed : {A B : Type 0} (R : A → B → Type 0) (s : List ℕ) (i : ℕ) (a : A) (b : B) → R a b → Related R (closed s i a) (closed s i b)
 unfolding closed
-rel-closed R s i a b e = rel-cond R (eqb (getD s i 0) 41) (got a (i + 1)) bad (got b (i + 1)) bad (e, refl) tt
+rel-closed R s i a b e = rel-cond R (eqb (getD s i 0) (code ")")) (got a (i + 1)) bad (got b (i + 1)) bad (e, refl) tt
 
 -- the same register on both sides, and it is there
 pub rel-register : {A B : Type 0} (R : A → B → Type 0) (t : List ℕ) (k : ℕ → ℕ → Got A) (k′ : ℕ → ℕ → Got B)
@@ -146,7 +147,7 @@ module _ {A B : Type 0} (R : A → B → Type 0) (α : Algebra A) (β : Algebra 
   module _ (p : List ℕ → Got A) (q : List ℕ → Got B) (e : (t : List ℕ) → Related R (p t) (q t)) where
     rel-second : (s : List ℕ) (o : Op2) (i : ℕ) (a : A) (b : B) → R a b → Related R (second α p s o i a) (second β q s o i b)
     rel-second s o i a b r =
-        rel-cond R (eqb (getD s i 0) 32)
+        rel-cond R (eqb (getD s i 0) (code " "))
         (andThen (p (drop (i + 1) s)) (λ a′ m. closed s (i + 1 + m) (α .on2 o a a′))) bad
         (andThen (q (drop (i + 1) s)) (λ b′ m. closed s (i + 1 + m) (β .on2 o b b′))) bad
         (rel-then R R (p (drop (i + 1) s)) (q (drop (i + 1) s)) (λ a′ m. closed s (i + 1 + m) (α .on2 o a a′)) (λ b′ m. closed s (i + 1 + m) (β .on2 o b b′)) (e (drop (i + 1) s))
@@ -166,7 +167,7 @@ module _ {A B : Type 0} (R : A → B → Type 0) (α : Algebra A) (β : Algebra 
     rel-head s k isNone = tt
 
     rel-arg-with : (s : List ℕ) → Related R (argWith α p s) (argWith β q s)
-    rel-arg-with s = rel-cond R (eqb (getD s 0 0) 40) (p s) (mapGot (α .onLit) (literal s)) (q s) (mapGot (β .onLit) (literal s)) (e s) (rel-literal (literal s))
+    rel-arg-with s = rel-cond R (eqb (getD s 0 0) (code "(")) (p s) (mapGot (α .onLit) (literal s)) (q s) (mapGot (β .onLit) (literal s)) (e s) (rel-literal (literal s))
 
   pub rel-arg : (d : ℕ) (s : List ℕ) → Related R (arg α d s) (arg β d s)
   unfolding arg

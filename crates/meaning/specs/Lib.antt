@@ -1,5 +1,6 @@
 pub mod Refusals
 pub mod Lists
+pub mod Bytes
 pub mod Number
 pub mod Bools
 pub mod Interval

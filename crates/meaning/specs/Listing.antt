@@ -5,7 +5,9 @@ use lib.ListN.{length}
 use mathlib.Core.Bool.{Bool, true, false, cond, _||_}
 use mathlib.Core.List.{List, [], _∷_, _++_}
 use Prim.Native.Nat.{ℕ, zero, suc, _+_, _/_, _%_}
+use Prim.Native.Char.{code}
 use Rattle.meaning.specs.Refusals.{zeroDivisor}
+use Rattle.meaning.specs.Bytes.{bytes}
 use Rattle.meaning.specs.Outcome.{Outcome, done, stopped}
 use Rattle.meaning.specs.Interval.{Interval}
 use Rattle.meaning.specs.NumberIntervals.{Set}
@@ -18,7 +20,7 @@ use Rattle.meaning.specs.Check.{Bands, at, check, shipLimit}
 -- the digits of n before `tail`, at most `most` of them
 unfoldable pub digitsBefore : ℕ → ℕ → List ℕ → List ℕ
 digitsBefore zero n tail = tail
-digitsBefore (suc most) n tail = cond (ltb n 10) ((48 + n) ∷ tail) (digitsBefore most (n / 10) ((48 + n % 10) ∷ tail))
+digitsBefore (suc most) n tail = cond (ltb n 10) ((code "0" + n) ∷ tail) (digitsBefore most (n / 10) ((code "0" + n % 10) ∷ tail))
 
 -- twenty digits hold every number below 10^20
 unfoldable pub decimal : ℕ → List ℕ
@@ -26,15 +28,15 @@ decimal n = digitsBefore 20 n []
 
 unfoldable pub decimalZ : ℤ → List ℕ
 decimalZ (pos n) = decimal n
-decimalZ (negsuc n) = 45 ∷ decimal (suc n)
+decimalZ (negsuc n) = bytes "-" ++ decimal (suc n)
 
 -- ---- one line otherwise: number and line
 
--- "refused K L", or "stop K L" for a finding
+-- refusals are numbered below findings
 unfoldable pub troubleLine : ℕ → ℕ → List ℕ
 troubleLine k l =
-    cond (ltb k zeroDivisor) (114 ∷ 101 ∷ 102 ∷ 117 ∷ 115 ∷ 101 ∷ 100 ∷ []) (115 ∷ 116 ∷ 111 ∷ 112 ∷ [])
-    ++ (32 ∷ decimal k ++ (32 ∷ decimal l ++ 10 ∷ []))
+    cond (ltb k zeroDivisor) (bytes "refused") (bytes "stop")
+    ++ (bytes " " ++ decimal k ++ (bytes " " ++ decimal l ++ bytes "\n"))
 
 -- ---- a pass
 
@@ -48,23 +50,21 @@ unfoldable pub listed : List Line → ℕ → Bool
 listed [] r = false
 listed (l ∷ ls) r = wroteTo r l || listed ls r
 
--- " LO..HI" for each interval
+-- one space before each interval
 unfoldable pub intervalTexts : Set → List ℕ
 intervalTexts [] = []
-intervalTexts (i ∷ s) = 32 ∷ decimalZ (i .lo) ++ (46 ∷ 46 ∷ decimalZ (i .hi) ++ intervalTexts s)
+intervalTexts (i ∷ s) = bytes " " ++ decimalZ (i .lo) ++ (bytes ".." ++ decimalZ (i .hi) ++ intervalTexts s)
 
--- "rR LO..HI .."
 unfoldable pub registerLine : ℕ → Set → List ℕ
-registerLine r s = 114 ∷ decimal r ++ (intervalTexts s ++ 10 ∷ [])
+registerLine r s = bytes "r" ++ decimal r ++ (intervalTexts s ++ bytes "\n")
 
 -- the next `n` registers from r on, ascending
 unfoldable pub registerLines : List Line → List Set → ℕ → ℕ → List ℕ
 registerLines ls S r zero = []
 registerLines ls S r (suc n) = cond (listed ls r) (registerLine r (at S r)) [] ++ registerLines ls S (suc r) n
 
--- "pass N"
 unfoldable pub passLine : ℕ → List ℕ
-passLine n = 112 ∷ 97 ∷ 115 ∷ 115 ∷ 32 ∷ decimal n ++ 10 ∷ []
+passLine n = bytes "pass " ++ decimal n ++ bytes "\n"
 
 unfoldable pub outcomeText : List Line → Outcome Bands → List ℕ
 outcomeText ls (done B) = passLine (length ls) ++ registerLines ls (B .sets) 0 registers

@@ -7,6 +7,7 @@ use mathlib.Core.Bool.{cond}
 use mathlib.Core.List.{List, [], _∷_, _++_}
 use Prim.Native.Nat.{ℕ, suc, _<_}
 use Rattle.meaning.specs.Lists.{All}
+use Rattle.meaning.specs.Bytes.{LF}
 use Rattle.meaning.specs.Sheet.{Line, input, act, FineLine}
 use Rattle.meaning.specs.Text.{lines, lineAt, cut, sheet, read}
 
@@ -15,15 +16,15 @@ use Rattle.meaning.specs.Text.{lines, lineAt, cut, sheet, read}
 -- how many LFs there are
 abbrev pub feeds : List ℕ → ℕ
 feeds [] = 0
-feeds (b ∷ t) = cond (eqb b 10) (suc (feeds t)) (feeds t)
+feeds (b ∷ t) = cond (eqb b LF) (suc (feeds t)) (feeds t)
 
 -- there are as many lines as LFs; line 0 and a line that has no LF are empty; the cut after line n + 1 is the cut after line n, then line n + 1, then its LF; and no line has an LF in it
 pub record LineAt (t : List ℕ) : Type 0 where
   pub count : length (lines t) ≡ feeds t
   pub none : lineAt t 0 ≡ []
-  pub within : (n : ℕ) → n < length (lines t) → cut t (suc n) ≡ cut t n ++ (lineAt t (suc n) ++ 10 ∷ [])
+  pub within : (n : ℕ) → n < length (lines t) → cut t (suc n) ≡ cut t n ++ (lineAt t (suc n) ++ LF ∷ [])
   pub past : (n : ℕ) → length (lines t) < n → lineAt t n ≡ []
-  pub plain : (n : ℕ) → All (λ b. b ≡ 10 → ⊥) (lineAt t n)
+  pub plain : (n : ℕ) → All (λ b. b ≡ LF → ⊥) (lineAt t n)
 
 -- ---- at most one `in` for a register, and none after another kind
 

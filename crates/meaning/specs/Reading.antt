@@ -5,7 +5,9 @@ use lib.ListN.{length, getD, take, drop}
 use mathlib.Core.Bool.{Bool, true, false, cond, _&&_}
 use mathlib.Core.List.{List, [], _∷_}
 use Prim.Native.Nat.{ℕ, zero, suc, _+_, _-_, _*_, _^_}
+use Prim.Native.Char.{code}
 use Rattle.meaning.specs.Refusals.{ungrammatical, farLiteral}
+use Rattle.meaning.specs.Bytes.{bytes}
 use Rattle.meaning.specs.Outcome.{Res, ok, stop}
 use Rattle.meaning.specs.Number.{Op1, neg, abs, not′, Op2, add, sub, mul, div, rem, le, lt, ne, and, or}
 use Rattle.meaning.specs.Sheet.{registers, Form, lit, reg, form1, form2, Act, put, hold, Line, input, act, farLine, crossedLine}
@@ -29,7 +31,7 @@ byte s i b g = cond (eqb (getD s i 0) b) g bad
 
 -- the closing bracket at i ends it
 unfoldable pub closed : {A : Type 0} → List ℕ → ℕ → A → Got A
-closed s i a = byte s i 41 (got a (i + 1))
+closed s i a = byte s i (code ")") (got a (i + 1))
 
 -- the text begins with a word
 unfoldable pub begins : List ℕ → List ℕ → Bool
@@ -40,7 +42,7 @@ begins (x ∷ w) (b ∷ s) = eqb b x && begins w s
 -- ---- literals: optional minus, digits without a needless leading 0, optionally a point and 1 to 3 digits
 
 abbrev pub isDigit : ℕ → Bool
-isDigit b = leb 48 b && leb b 57
+isDigit b = leb (code "0") b && leb b (code "9")
 
 -- how many digits the text begins with
 unfoldable pub digits : List ℕ → ℕ
@@ -50,11 +52,11 @@ digits (b ∷ s) = cond (isDigit b) (digits s + 1) 0
 -- the number that digits write behind a
 unfoldable pub number : ℕ → List ℕ → ℕ
 number a [] = a
-number a (b ∷ s) = number (a * 10 + (b - 48)) s
+number a (b ∷ s) = number (a * 10 + (b - code "0")) s
 
 -- the first of i digits is a needless 0
 abbrev pub needless : List ℕ → ℕ → Bool
-needless s i = ltb 1 i && eqb (getD s 0 0) 48
+needless s i = ltb 1 i && eqb (getD s 0 0) (code "0")
 
 -- thousandths of a unit of the last of d decimals: 1000, 100, 10, 1
 unfoldable pub scale : ℕ → ℕ
@@ -75,14 +77,14 @@ unfoldable pub unsigned : Bool → ℕ → List ℕ → ℕ → Got ℤ
 unsigned negated o s i =
     cond (eqb i 0) bad
     (cond (needless s i) bad
-    (cond (eqb (getD s i 0) 46)
+    (cond (eqb (getD s i 0) (code "."))
     (decimals negated o s i (drop (i + 1) s) (digits (drop (i + 1) s)))
     (got (signed negated (number 0 (take i s) * scale 0)) (o + i))))
 
 -- in exact thousandths, however many digits
 unfoldable pub literal : List ℕ → Got ℤ
 literal s =
-    cond (eqb (getD s 0 0) 45)
+    cond (eqb (getD s 0 0) (code "-"))
     (unsigned true 1 (drop 1 s) (digits (drop 1 s)))
     (unsigned false 0 s (digits s))
 
@@ -108,30 +110,25 @@ pub data Head : Type 0 where
 
 unfoldable pub head : List ℕ → Head
 head s =
-    -- "(reg "
-    cond (begins (40 ∷ 114 ∷ 101 ∷ 103 ∷ 32 ∷ []) s) isReg
-    -- "(neg ", "(abs ", "(not "
-    (cond (begins (40 ∷ 110 ∷ 101 ∷ 103 ∷ 32 ∷ []) s) (is1 neg)
-    (cond (begins (40 ∷ 97 ∷ 98 ∷ 115 ∷ 32 ∷ []) s) (is1 abs)
-    (cond (begins (40 ∷ 110 ∷ 111 ∷ 116 ∷ 32 ∷ []) s) (is1 not′)
-    -- "(add ", "(sub ", "(mul ", "(div ", "(rem "
-    (cond (begins (40 ∷ 97 ∷ 100 ∷ 100 ∷ 32 ∷ []) s) (is2 add)
-    (cond (begins (40 ∷ 115 ∷ 117 ∷ 98 ∷ 32 ∷ []) s) (is2 sub)
-    (cond (begins (40 ∷ 109 ∷ 117 ∷ 108 ∷ 32 ∷ []) s) (is2 mul)
-    (cond (begins (40 ∷ 100 ∷ 105 ∷ 118 ∷ 32 ∷ []) s) (is2 div)
-    (cond (begins (40 ∷ 114 ∷ 101 ∷ 109 ∷ 32 ∷ []) s) (is2 rem)
-    -- "(le ", "(lt ", "(ne "
-    (cond (begins (40 ∷ 108 ∷ 101 ∷ 32 ∷ []) s) (is2 le)
-    (cond (begins (40 ∷ 108 ∷ 116 ∷ 32 ∷ []) s) (is2 lt)
-    (cond (begins (40 ∷ 110 ∷ 101 ∷ 32 ∷ []) s) (is2 ne)
-    -- "(and ", "(or "
-    (cond (begins (40 ∷ 97 ∷ 110 ∷ 100 ∷ 32 ∷ []) s) (is2 and)
-    (cond (begins (40 ∷ 111 ∷ 114 ∷ 32 ∷ []) s) (is2 or)
+    cond (begins (bytes "(reg ") s) isReg
+    (cond (begins (bytes "(neg ") s) (is1 neg)
+    (cond (begins (bytes "(abs ") s) (is1 abs)
+    (cond (begins (bytes "(not ") s) (is1 not′)
+    (cond (begins (bytes "(add ") s) (is2 add)
+    (cond (begins (bytes "(sub ") s) (is2 sub)
+    (cond (begins (bytes "(mul ") s) (is2 mul)
+    (cond (begins (bytes "(div ") s) (is2 div)
+    (cond (begins (bytes "(rem ") s) (is2 rem)
+    (cond (begins (bytes "(le ") s) (is2 le)
+    (cond (begins (bytes "(lt ") s) (is2 lt)
+    (cond (begins (bytes "(ne ") s) (is2 ne)
+    (cond (begins (bytes "(and ") s) (is2 and)
+    (cond (begins (bytes "(or ") s) (is2 or)
     isNone)))))))))))))
 
 -- where the first argument starts: behind the space that ends a word of two or three letters
 unfoldable pub start : List ℕ → ℕ
-start s = cond (eqb (getD s 3 0) 32) 4 5
+start s = cond (eqb (getD s 3 0) (code " ")) 4 5
 
 -- what is made of a literal (its exact thousandths), a register, and an operation's arguments
 pub record Algebra (A : Type 0) : Type 0 where
@@ -143,7 +140,7 @@ pub record Algebra (A : Type 0) : Type 0 where
 module _ {A : Type 0} (alg : Algebra A) where
   -- the second argument and the closing bracket; the first argument ended before i
   abbrev pub second : (List ℕ → Got A) → List ℕ → Op2 → ℕ → A → Got A
-  second arg s o i a = byte s i 32 (andThen (arg (drop (i + 1) s)) (λ b m. closed s (i + 1 + m) (alg .on2 o a b)))
+  second arg s o i a = byte s i (code " ") (andThen (arg (drop (i + 1) s)) (λ b m. closed s (i + 1 + m) (alg .on2 o a b)))
 
   -- the arguments from k on, and the closing bracket
   abbrev pub onHead : (List ℕ → Got A) → List ℕ → ℕ → Head → Got A
@@ -157,7 +154,7 @@ module _ {A : Type 0} (alg : Algebra A) where
 
   -- an argument is a form if it opens a bracket, else a literal
   abbrev pub argWith : (List ℕ → Got A) → List ℕ → Got A
-  argWith form s = cond (eqb (getD s 0 0) 40) (form s) (mapGot (alg .onLit) (literal s))
+  argWith form s = cond (eqb (getD s 0 0) (code "(")) (form s) (mapGot (alg .onLit) (literal s))
 
   -- with d brackets left
   unfoldable pub arg : ℕ → List ℕ → Got A
@@ -175,13 +172,13 @@ tree = record { onLit = lit; onReg = reg; on1 = form1; on2 = form2 }
 
 -- R, a space, and what is read of the rest; the register starts at i
 abbrev pub onRegister : {A : Type 0} → List ℕ → ℕ → (ℕ → ℕ → Got A) → Got A
-onRegister s i rest = andThen (register (drop i s)) (λ r n. byte s (i + n) 32 (rest r (i + n + 1)))
+onRegister s i rest = andThen (register (drop i s)) (λ r n. byte s (i + n) (code " ") (rest r (i + n + 1)))
 
 -- LO, a space, HI and the closing bracket, from i on
 unfoldable pub bounds : {A : Type 0} → (ℤ → ℤ → A) → List ℕ → ℕ → Got A
 bounds make s i =
     andThen (literal (drop i s))
-    (λ lo n. byte s (i + n) 32
+    (λ lo n. byte s (i + n) (code " ")
     (andThen (literal (drop (i + n + 1) s)) (λ hi m. closed s (i + n + 1 + m) (make lo hi))))
 
 -- E and the closing bracket, from i on
@@ -191,14 +188,14 @@ value alg make d s i = andThen (arg alg d (drop i s)) (λ e n. closed s (i + n) 
 -- "(put R E)" or "(hold R LO HI)"
 unfoldable pub actOf : ℕ → List ℕ → Got Act
 actOf d s =
-    cond (begins (40 ∷ 112 ∷ 117 ∷ 116 ∷ 32 ∷ []) s) (onRegister s 5 (λ r i. value tree (put r) d s i))
-    (cond (begins (40 ∷ 104 ∷ 111 ∷ 108 ∷ 100 ∷ 32 ∷ []) s) (onRegister s 6 (λ r i. bounds (hold r) s i))
+    cond (begins (bytes "(put ") s) (onRegister s 5 (λ r i. value tree (put r) d s i))
+    (cond (begins (bytes "(hold ") s) (onRegister s 6 (λ r i. bounds (hold r) s i))
     bad)
 
 -- "(in R LO HI)", or one of those
 unfoldable pub lineOf : ℕ → List ℕ → Got Line
 lineOf d s =
-    cond (begins (40 ∷ 105 ∷ 110 ∷ 32 ∷ []) s) (onRegister s 4 (λ r i. bounds (input r) s i))
+    cond (begins (bytes "(in ") s) (onRegister s 4 (λ r i. bounds (input r) s i))
     (mapGot act (actOf d s))
 
 -- nothing stands behind the form: one form a line

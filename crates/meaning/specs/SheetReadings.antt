@@ -4,8 +4,10 @@ use lib.IntN.{ℤ, pos, negsuc}
 use lib.ListN.{drop, replicate}
 use mathlib.Core.Path.{_≡_}
 use mathlib.Core.Bool.{true, false}
-use mathlib.Core.List.{List, [], _∷_, _++_}
+use mathlib.Core.List.{[], _∷_, _++_}
+use Prim.Native.Char.{code}
 use Rattle.meaning.specs.Refusals.{notNormal, tooMany, tooShort, noRoom, misshapen, ungrammatical, farLiteral, misplaced, crowded, zeroDivisor, holdBroken, outsideIn}
+use Rattle.meaning.specs.Bytes.{bytes, LF}
 use Rattle.meaning.specs.Outcome.{stop, done, stopped}
 use Rattle.meaning.specs.Number.{MIN, MAX, neg, abs, sub, mul, div, rem, le, or}
 use Rattle.meaning.specs.Interval.{span}
@@ -47,68 +49,68 @@ pub record SheetReadings : Type 0 where
   -- the empty text is a sheet
   pub empty-text : read [] ≡ sheet []
   -- a line without a form
-  pub empty-line : read (10 ∷ []) ≡ noSheet ungrammatical 1
+  pub empty-line : read (bytes "\n") ≡ noSheet ungrammatical 1
   -- the last LF is missing
-  pub no-last-feed : read (40 ∷ 112 ∷ 117 ∷ 116 ∷ 32 ∷ 48 ∷ 32 ∷ 49 ∷ 41 ∷ []) ≡ noSheet misshapen 0
+  pub no-last-feed : read (bytes "(put 0 1)") ≡ noSheet misshapen 0
   -- 5 comes before 6, over the whole text: a line of 121 bytes on line 2
-  pub long-line : read (120 ∷ 10 ∷ (replicate 121 49 ++ 10 ∷ [])) ≡ noSheet misshapen 0
+  pub long-line : read (bytes "x\n" ++ (replicate 121 (code "1") ++ bytes "\n")) ≡ noSheet misshapen 0
   -- a line of 120 bytes is read
-  pub line-of-120 : read (120 ∷ 10 ∷ (replicate 120 49 ++ 10 ∷ [])) ≡ noSheet ungrammatical 1
+  pub line-of-120 : read (bytes "x\n" ++ (replicate 120 (code "1") ++ bytes "\n")) ≡ noSheet ungrammatical 1
   -- 257 lines
-  pub lines-257 : read (replicate 257 10) ≡ noSheet misshapen 0
-  pub lines-256 : read (replicate 256 10) ≡ noSheet ungrammatical 1
+  pub lines-257 : read (replicate 257 LF) ≡ noSheet misshapen 0
+  pub lines-256 : read (replicate 256 LF) ≡ noSheet ungrammatical 1
   -- 7 on line 1 comes before 6 on line 2
-  pub line-by-line : read (40 ∷ 112 ∷ 117 ∷ 116 ∷ 32 ∷ 48 ∷ 32 ∷ 57 ∷ 57 ∷ 57 ∷ 57 ∷ 57 ∷ 57 ∷ 57 ∷ 57 ∷ 57 ∷ 57 ∷ 57 ∷ 57 ∷ 57 ∷ 57 ∷ 57 ∷ 57 ∷ 41 ∷ 10 ∷ 120 ∷ 10 ∷ []) ≡ noSheet farLiteral 1
+  pub line-by-line : read (bytes "(put 0 9999999999999999)\nx\n") ≡ noSheet farLiteral 1
   -- on one line 6 comes before 7
-  pub grammar-first : read (40 ∷ 112 ∷ 117 ∷ 116 ∷ 32 ∷ 48 ∷ 32 ∷ 57 ∷ 57 ∷ 57 ∷ 57 ∷ 57 ∷ 57 ∷ 57 ∷ 57 ∷ 57 ∷ 57 ∷ 57 ∷ 57 ∷ 57 ∷ 57 ∷ 57 ∷ 57 ∷ 57 ∷ 57 ∷ 57 ∷ 57 ∷ 46 ∷ 49 ∷ 50 ∷ 51 ∷ 52 ∷ 41 ∷ 10 ∷ []) ≡ noSheet ungrammatical 1
-  pub grammar-first-behind : read (40 ∷ 112 ∷ 117 ∷ 116 ∷ 32 ∷ 48 ∷ 32 ∷ 57 ∷ 57 ∷ 57 ∷ 57 ∷ 57 ∷ 57 ∷ 57 ∷ 57 ∷ 57 ∷ 57 ∷ 57 ∷ 57 ∷ 57 ∷ 57 ∷ 57 ∷ 57 ∷ 41 ∷ 32 ∷ 120 ∷ 10 ∷ []) ≡ noSheet ungrammatical 1
+  pub grammar-first : read (bytes "(put 0 99999999999999999999.1234)\n") ≡ noSheet ungrammatical 1
+  pub grammar-first-behind : read (bytes "(put 0 9999999999999999) x\n") ≡ noSheet ungrammatical 1
   -- 7 comes before LO past HI
-  pub far-before-crossed : read (40 ∷ 105 ∷ 110 ∷ 32 ∷ 48 ∷ 32 ∷ 57 ∷ 57 ∷ 57 ∷ 57 ∷ 57 ∷ 57 ∷ 57 ∷ 57 ∷ 57 ∷ 57 ∷ 57 ∷ 57 ∷ 57 ∷ 57 ∷ 57 ∷ 57 ∷ 32 ∷ 49 ∷ 41 ∷ 10 ∷ []) ≡ noSheet farLiteral 1
+  pub far-before-crossed : read (bytes "(in 0 9999999999999999 1)\n") ≡ noSheet farLiteral 1
   -- LO past HI comes before 8
-  pub crossed-before-misplaced : read (40 ∷ 112 ∷ 117 ∷ 116 ∷ 32 ∷ 48 ∷ 32 ∷ 49 ∷ 41 ∷ 10 ∷ 40 ∷ 105 ∷ 110 ∷ 32 ∷ 48 ∷ 32 ∷ 50 ∷ 32 ∷ 49 ∷ 41 ∷ 10 ∷ []) ≡ noSheet ungrammatical 2
+  pub crossed-before-misplaced : read (bytes "(put 0 1)\n(in 0 2 1)\n") ≡ noSheet ungrammatical 2
   -- an `in` behind another kind, of whatever register
-  pub in-late : read (40 ∷ 112 ∷ 117 ∷ 116 ∷ 32 ∷ 48 ∷ 32 ∷ 49 ∷ 41 ∷ 10 ∷ 40 ∷ 105 ∷ 110 ∷ 32 ∷ 49 ∷ 32 ∷ 48 ∷ 32 ∷ 49 ∷ 41 ∷ 10 ∷ []) ≡ noSheet misplaced 2
+  pub in-late : read (bytes "(put 0 1)\n(in 1 0 1)\n") ≡ noSheet misplaced 2
   -- a second `in` for a register
-  pub in-twice : read (40 ∷ 105 ∷ 110 ∷ 32 ∷ 48 ∷ 32 ∷ 48 ∷ 32 ∷ 49 ∷ 41 ∷ 10 ∷ 40 ∷ 105 ∷ 110 ∷ 32 ∷ 48 ∷ 32 ∷ 48 ∷ 32 ∷ 49 ∷ 41 ∷ 10 ∷ []) ≡ noSheet misplaced 2
-  pub needless-zero : read (40 ∷ 112 ∷ 117 ∷ 116 ∷ 32 ∷ 48 ∷ 32 ∷ 48 ∷ 49 ∷ 41 ∷ 10 ∷ []) ≡ noSheet ungrammatical 1
-  pub bare-point : read (40 ∷ 112 ∷ 117 ∷ 116 ∷ 32 ∷ 48 ∷ 32 ∷ 49 ∷ 46 ∷ 41 ∷ 10 ∷ []) ≡ noSheet ungrammatical 1
-  pub four-decimals : read (40 ∷ 112 ∷ 117 ∷ 116 ∷ 32 ∷ 48 ∷ 32 ∷ 49 ∷ 46 ∷ 48 ∷ 48 ∷ 48 ∷ 48 ∷ 41 ∷ 10 ∷ []) ≡ noSheet ungrammatical 1
-  pub register-16 : read (40 ∷ 112 ∷ 117 ∷ 116 ∷ 32 ∷ 49 ∷ 54 ∷ 32 ∷ 49 ∷ 41 ∷ 10 ∷ []) ≡ noSheet ungrammatical 1
-  pub register-01 : read (40 ∷ 112 ∷ 117 ∷ 116 ∷ 32 ∷ 48 ∷ 49 ∷ 32 ∷ 49 ∷ 41 ∷ 10 ∷ []) ≡ noSheet ungrammatical 1
-  pub bracketed-literal : read (40 ∷ 112 ∷ 117 ∷ 116 ∷ 32 ∷ 48 ∷ 32 ∷ 40 ∷ 49 ∷ 41 ∷ 41 ∷ 10 ∷ []) ≡ noSheet ungrammatical 1
-  pub trailing-space : read (40 ∷ 112 ∷ 117 ∷ 116 ∷ 32 ∷ 48 ∷ 32 ∷ 49 ∷ 41 ∷ 32 ∷ 10 ∷ []) ≡ noSheet ungrammatical 1
-  pub double-space : read (40 ∷ 112 ∷ 117 ∷ 116 ∷ 32 ∷ 32 ∷ 48 ∷ 32 ∷ 49 ∷ 41 ∷ 10 ∷ []) ≡ noSheet ungrammatical 1
-  pub carriage-return : read (40 ∷ 112 ∷ 117 ∷ 116 ∷ 32 ∷ 48 ∷ 32 ∷ 49 ∷ 41 ∷ 13 ∷ 10 ∷ []) ≡ noSheet ungrammatical 1
+  pub in-twice : read (bytes "(in 0 0 1)\n(in 0 0 1)\n") ≡ noSheet misplaced 2
+  pub needless-zero : read (bytes "(put 0 01)\n") ≡ noSheet ungrammatical 1
+  pub bare-point : read (bytes "(put 0 1.)\n") ≡ noSheet ungrammatical 1
+  pub four-decimals : read (bytes "(put 0 1.0000)\n") ≡ noSheet ungrammatical 1
+  pub register-16 : read (bytes "(put 16 1)\n") ≡ noSheet ungrammatical 1
+  pub register-01 : read (bytes "(put 01 1)\n") ≡ noSheet ungrammatical 1
+  pub bracketed-literal : read (bytes "(put 0 (1))\n") ≡ noSheet ungrammatical 1
+  pub trailing-space : read (bytes "(put 0 1) \n") ≡ noSheet ungrammatical 1
+  pub double-space : read (bytes "(put  0 1)\n") ≡ noSheet ungrammatical 1
+  pub carriage-return : read (bytes "(put 0 1)\r\n") ≡ noSheet ungrammatical 1
   -- the literals of MIN and MAX, and one past
-  pub least-literal : read (40 ∷ 112 ∷ 117 ∷ 116 ∷ 32 ∷ 48 ∷ 32 ∷ 45 ∷ 57 ∷ 50 ∷ 50 ∷ 51 ∷ 51 ∷ 55 ∷ 50 ∷ 48 ∷ 51 ∷ 54 ∷ 56 ∷ 53 ∷ 52 ∷ 55 ∷ 55 ∷ 53 ∷ 46 ∷ 56 ∷ 48 ∷ 56 ∷ 41 ∷ 10 ∷ []) ≡ sheet (act (put 0 (lit MIN)) ∷ [])
-  pub greatest-literal : read (40 ∷ 112 ∷ 117 ∷ 116 ∷ 32 ∷ 48 ∷ 32 ∷ 57 ∷ 50 ∷ 50 ∷ 51 ∷ 51 ∷ 55 ∷ 50 ∷ 48 ∷ 51 ∷ 54 ∷ 56 ∷ 53 ∷ 52 ∷ 55 ∷ 55 ∷ 53 ∷ 46 ∷ 56 ∷ 48 ∷ 55 ∷ 41 ∷ 10 ∷ []) ≡ sheet (act (put 0 (lit MAX)) ∷ [])
-  pub past-greatest : read (40 ∷ 112 ∷ 117 ∷ 116 ∷ 32 ∷ 48 ∷ 32 ∷ 57 ∷ 50 ∷ 50 ∷ 51 ∷ 51 ∷ 55 ∷ 50 ∷ 48 ∷ 51 ∷ 54 ∷ 56 ∷ 53 ∷ 52 ∷ 55 ∷ 55 ∷ 53 ∷ 46 ∷ 56 ∷ 48 ∷ 56 ∷ 41 ∷ 10 ∷ []) ≡ noSheet farLiteral 1
-  pub minus-zero : read (40 ∷ 112 ∷ 117 ∷ 116 ∷ 32 ∷ 49 ∷ 53 ∷ 32 ∷ 45 ∷ 48 ∷ 41 ∷ 10 ∷ []) ≡ sheet (act (put 15 (lit (pos 0))) ∷ [])
+  pub least-literal : read (bytes "(put 0 -9223372036854775.808)\n") ≡ sheet (act (put 0 (lit MIN)) ∷ [])
+  pub greatest-literal : read (bytes "(put 0 9223372036854775.807)\n") ≡ sheet (act (put 0 (lit MAX)) ∷ [])
+  pub past-greatest : read (bytes "(put 0 9223372036854775.808)\n") ≡ noSheet farLiteral 1
+  pub minus-zero : read (bytes "(put 15 -0)\n") ≡ sheet (act (put 15 (lit (pos 0))) ∷ [])
   -- put, six neg and (reg 0) are 8 brackets, a seventh neg makes 9
-  pub eight-brackets : read (40 ∷ 112 ∷ 117 ∷ 116 ∷ 32 ∷ 48 ∷ 32 ∷ 40 ∷ 110 ∷ 101 ∷ 103 ∷ 32 ∷ 40 ∷ 110 ∷ 101 ∷ 103 ∷ 32 ∷ 40 ∷ 110 ∷ 101 ∷ 103 ∷ 32 ∷ 40 ∷ 110 ∷ 101 ∷ 103 ∷ 32 ∷ 40 ∷ 110 ∷ 101 ∷ 103 ∷ 32 ∷ 40 ∷ 110 ∷ 101 ∷ 103 ∷ 32 ∷ 40 ∷ 114 ∷ 101 ∷ 103 ∷ 32 ∷ 48 ∷ 41 ∷ 41 ∷ 41 ∷ 41 ∷ 41 ∷ 41 ∷ 41 ∷ 41 ∷ 10 ∷ []) ≡ sheet (act (put 0 (form1 neg (form1 neg (form1 neg (form1 neg (form1 neg (form1 neg (reg 0)))))))) ∷ [])
-  pub nine-brackets : read (40 ∷ 112 ∷ 117 ∷ 116 ∷ 32 ∷ 48 ∷ 32 ∷ 40 ∷ 110 ∷ 101 ∷ 103 ∷ 32 ∷ 40 ∷ 110 ∷ 101 ∷ 103 ∷ 32 ∷ 40 ∷ 110 ∷ 101 ∷ 103 ∷ 32 ∷ 40 ∷ 110 ∷ 101 ∷ 103 ∷ 32 ∷ 40 ∷ 110 ∷ 101 ∷ 103 ∷ 32 ∷ 40 ∷ 110 ∷ 101 ∷ 103 ∷ 32 ∷ 40 ∷ 110 ∷ 101 ∷ 103 ∷ 32 ∷ 40 ∷ 114 ∷ 101 ∷ 103 ∷ 32 ∷ 48 ∷ 41 ∷ 41 ∷ 41 ∷ 41 ∷ 41 ∷ 41 ∷ 41 ∷ 41 ∷ 41 ∷ 10 ∷ []) ≡ noSheet ungrammatical 1
-  pub operators : read (40 ∷ 104 ∷ 111 ∷ 108 ∷ 100 ∷ 32 ∷ 49 ∷ 32 ∷ 45 ∷ 51 ∷ 32 ∷ 53 ∷ 41 ∷ 10 ∷ 40 ∷ 112 ∷ 117 ∷ 116 ∷ 32 ∷ 50 ∷ 32 ∷ 40 ∷ 108 ∷ 101 ∷ 32 ∷ 40 ∷ 115 ∷ 117 ∷ 98 ∷ 32 ∷ 49 ∷ 32 ∷ 50 ∷ 41 ∷ 32 ∷ 40 ∷ 111 ∷ 114 ∷ 32 ∷ 51 ∷ 32 ∷ 52 ∷ 46 ∷ 50 ∷ 53 ∷ 41 ∷ 41 ∷ 41 ∷ 10 ∷ []) ≡ sheet (act (hold 1 (negsuc 2999) (pos 5000)) ∷ act (put 2 (form2 le (form2 sub (lit (pos 1000)) (lit (pos 2000))) (form2 or (lit (pos 3000)) (lit (pos 4250))))) ∷ [])
+  pub eight-brackets : read (bytes "(put 0 (neg (neg (neg (neg (neg (neg (reg 0))))))))\n") ≡ sheet (act (put 0 (form1 neg (form1 neg (form1 neg (form1 neg (form1 neg (form1 neg (reg 0)))))))) ∷ [])
+  pub nine-brackets : read (bytes "(put 0 (neg (neg (neg (neg (neg (neg (neg (reg 0)))))))))\n") ≡ noSheet ungrammatical 1
+  pub operators : read (bytes "(hold 1 -3 5)\n(put 2 (le (sub 1 2) (or 3 4.25)))\n") ≡ sheet (act (hold 1 (negsuc 2999) (pos 5000)) ∷ act (put 2 (form2 le (form2 sub (lit (pos 1000)) (lit (pos 2000))) (form2 or (lit (pos 3000)) (lit (pos 4250))))) ∷ [])
   -- line 0, a line without LF and a line past the end are empty
-  pub line-zero : lineAt (97 ∷ 10 ∷ 98 ∷ []) 0 ≡ []
-  pub line-one : lineAt (97 ∷ 10 ∷ 98 ∷ []) 1 ≡ 97 ∷ []
-  pub line-two : lineAt (97 ∷ 10 ∷ 98 ∷ []) 2 ≡ []
-  pub line-three : lineAt (97 ∷ 10 ∷ 98 ∷ []) 3 ≡ []
+  pub line-zero : lineAt (bytes "a\nb") 0 ≡ []
+  pub line-one : lineAt (bytes "a\nb") 1 ≡ bytes "a"
+  pub line-two : lineAt (bytes "a\nb") 2 ≡ []
+  pub line-three : lineAt (bytes "a\nb") 3 ≡ []
   -- a cut keeps its LFs
-  pub cut-one : cut (97 ∷ 10 ∷ 98 ∷ 10 ∷ []) 1 ≡ 97 ∷ 10 ∷ []
+  pub cut-one : cut (bytes "a\nb\n") 1 ≡ bytes "a\n"
   -- 22 on line 2: register 0 has its lent number, register 1 still 0
-  pub run-stops : runText (pos 5000 ∷ pos 9000 ∷ []) (40 ∷ 105 ∷ 110 ∷ 32 ∷ 48 ∷ 32 ∷ 48 ∷ 32 ∷ 57 ∷ 41 ∷ 10 ∷ 40 ∷ 105 ∷ 110 ∷ 32 ∷ 49 ∷ 32 ∷ 48 ∷ 32 ∷ 49 ∷ 41 ∷ 10 ∷ []) ≡ worked 2 (stopped outsideIn 2 (pos 5000 ∷ replicate 15 (pos 0)))
+  pub run-stops : runText (pos 5000 ∷ pos 9000 ∷ []) (bytes "(in 0 0 9)\n(in 1 0 1)\n") ≡ worked 2 (stopped outsideIn 2 (pos 5000 ∷ replicate 15 (pos 0)))
   -- what a stop leaves: the state before the line, and numbers past the first 16 as lent
-  pub run-left : runLent (40 ∷ 105 ∷ 110 ∷ 32 ∷ 48 ∷ 32 ∷ 48 ∷ 32 ∷ 57 ∷ 41 ∷ 10 ∷ 40 ∷ 105 ∷ 110 ∷ 32 ∷ 49 ∷ 32 ∷ 48 ∷ 32 ∷ 49 ∷ 41 ∷ 10 ∷ []) (replicate 17 (pos 5000)) ≡ pos 5000 ∷ (replicate 15 (pos 0) ++ pos 5000 ∷ [])
+  pub run-left : runLent (bytes "(in 0 0 9)\n(in 1 0 1)\n") (replicate 17 (pos 5000)) ≡ pos 5000 ∷ (replicate 15 (pos 0) ++ pos 5000 ∷ [])
   -- fewer than 16 lent numbers are 3, before 5
-  pub run-short : verdict (runCall (120 ∷ []) []) ≡ record { number = tooShort; line = 0; count = 0 }
-  pub check-short : verdict (checkCall (120 ∷ []) [] []) ≡ record { number = tooShort; line = 0; count = 0 }
+  pub run-short : verdict (runCall (bytes "x") []) ≡ record { number = tooShort; line = 0; count = 0 }
+  pub check-short : verdict (checkCall (bytes "x") [] []) ≡ record { number = tooShort; line = 0; count = 0 }
   -- both arguments are always worked
-  pub no-short-cut : runText [] (40 ∷ 112 ∷ 117 ∷ 116 ∷ 32 ∷ 48 ∷ 32 ∷ 40 ∷ 97 ∷ 110 ∷ 100 ∷ 32 ∷ 48 ∷ 32 ∷ 40 ∷ 100 ∷ 105 ∷ 118 ∷ 32 ∷ 49 ∷ 32 ∷ 48 ∷ 41 ∷ 41 ∷ 41 ∷ 10 ∷ []) ≡ worked 1 (stopped zeroDivisor 1 (replicate 16 (pos 0)))
-  pub check-zero : checkText 16 (40 ∷ 112 ∷ 117 ∷ 116 ∷ 32 ∷ 48 ∷ 32 ∷ 40 ∷ 97 ∷ 110 ∷ 100 ∷ 32 ∷ 48 ∷ 32 ∷ 40 ∷ 100 ∷ 105 ∷ 118 ∷ 32 ∷ 49 ∷ 32 ∷ 48 ∷ 41 ∷ 41 ∷ 41 ∷ 10 ∷ []) ≡ worked 1 (stopped zeroDivisor 1 startSets)
+  pub no-short-cut : runText [] (bytes "(put 0 (and 0 (div 1 0)))\n") ≡ worked 1 (stopped zeroDivisor 1 (replicate 16 (pos 0)))
+  pub check-zero : checkText 16 (bytes "(put 0 (and 0 (div 1 0)))\n") ≡ worked 1 (stopped zeroDivisor 1 startSets)
   -- the start is {0}
-  pub check-hold : checkText 16 (40 ∷ 104 ∷ 111 ∷ 108 ∷ 100 ∷ 32 ∷ 51 ∷ 32 ∷ 48 ∷ 32 ∷ 48 ∷ 41 ∷ 10 ∷ 40 ∷ 104 ∷ 111 ∷ 108 ∷ 100 ∷ 32 ∷ 51 ∷ 32 ∷ 49 ∷ 32 ∷ 50 ∷ 41 ∷ 10 ∷ []) ≡ worked 2 (stopped holdBroken 2 startSets)
+  pub check-hold : checkText 16 (bytes "(hold 3 0 0)\n(hold 3 1 2)\n") ≡ worked 2 (stopped holdBroken 2 startSets)
   -- put's E reads the state before the line
-  pub put-old-state : runText [] (40 ∷ 112 ∷ 117 ∷ 116 ∷ 32 ∷ 48 ∷ 32 ∷ 49 ∷ 41 ∷ 10 ∷ 40 ∷ 112 ∷ 117 ∷ 116 ∷ 32 ∷ 48 ∷ 32 ∷ 40 ∷ 97 ∷ 100 ∷ 100 ∷ 32 ∷ 40 ∷ 114 ∷ 101 ∷ 103 ∷ 32 ∷ 48 ∷ 41 ∷ 32 ∷ 49 ∷ 41 ∷ 41 ∷ 10 ∷ []) ≡ worked 2 (done (pos 2000 ∷ replicate 15 (pos 0)))
+  pub put-old-state : runText [] (bytes "(put 0 1)\n(put 0 (add (reg 0) 1))\n") ≡ worked 2 (done (pos 2000 ∷ replicate 15 (pos 0)))
   -- an untouched register holds {0}
   pub untouched-slot : slot (span (pos 0) (pos 0)) ≡ pos 1 ∷ replicate 32 (pos 0)
   -- 9 comes before 20 at one form

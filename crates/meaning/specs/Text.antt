@@ -5,6 +5,7 @@ use mathlib.Core.Bool.{Bool, true, false, cond, _&&_, _||_}
 use mathlib.Core.List.{List, [], _∷_}
 use Prim.Native.Nat.{ℕ, zero, suc}
 use Rattle.meaning.specs.Refusals.{misshapen, misplaced}
+use Rattle.meaning.specs.Bytes.{LF}
 use Rattle.meaning.specs.Outcome.{Res, ok, stop, bind}
 use Rattle.meaning.specs.Sheet.{Line, input, act}
 use Rattle.meaning.specs.Reading.{readLine}
@@ -20,7 +21,7 @@ front b [] r = record { lines = []; rest = b ∷ r }
 front b (l ∷ ls) r = record { lines = (b ∷ l) ∷ ls; rest = r }
 
 abbrev pub splitByte : ℕ → Split → Split
-splitByte b s = cond (eqb b 10) (record { lines = [] ∷ s .lines; rest = s .rest }) (front b (s .lines) (s .rest))
+splitByte b s = cond (eqb b LF) (record { lines = [] ∷ s .lines; rest = s .rest }) (front b (s .lines) (s .rest))
 
 unfoldable pub splitLines : List ℕ → Split
 splitLines [] = record { lines = []; rest = [] }
@@ -38,7 +39,7 @@ lineAt t (suc n) = getD (lines t) n []
 unfoldable pub cut : List ℕ → ℕ → List ℕ
 cut [] n = []
 cut (b ∷ t) zero = []
-cut (b ∷ t) (suc n) = b ∷ cut t (cond (eqb b 10) n (suc n))
+cut (b ∷ t) (suc n) = b ∷ cut t (cond (eqb b LF) n (suc n))
 
 -- ---- 5: over 256 lines, a line over 120 bytes, the last LF missing
 

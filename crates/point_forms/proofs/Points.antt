@@ -3,6 +3,7 @@ use mathlib.Core.Path.{_≡_, refl, sym, ap, _∙_}
 use mathlib.Core.Bool.{Bool}
 use mathlib.Core.List.{List}
 use Prim.Native.Nat.{ℕ, _<_, _^_}
+use Prim.Native.Char.{code}
 use lib.IntN.{ℤ, pos}
 use lib.Signed.{mag}
 use lib.ListN.{getD}
@@ -38,7 +39,7 @@ module _ (op : Binary) (x y : ℤ) (f : SFits w64 x) (h : SFits w64 y) where
   binary-is g {r} m e p = ap (λ (z : ℤ). ok z) (toZ-ofZ (fit r m) ∙ e ∙ (λ i. g (toZ-ofZ f i) (toZ-ofZ h i))) ∙ p
 
 -- a literal's value
-module _ (state : List ℤ) (s : List ℕ) (d : ℕ) {b : ℕ} {r : Literal} (eb : b ≡ getD s 0 0) (ne : b ≡ 40 → ⊥) (er : r ≡ literalOf (literal s)) where
+module _ (state : List ℤ) (s : List ℕ) (d : ℕ) {b : ℕ} {r : Literal} (eb : b ≡ getD s 0 0) (ne : b ≡ code "(" → ⊥) (er : r ≡ literalOf (literal s)) where
   pub point-literal : {v : ℤ} {far : Bool} {n : ℕ} → r ≡ literal.Is v far n → got (ok (rd v)) n ≡ arg (points state) d s
   point-literal {v} {far} {n} e =
       let l = literal-is (literal s) er e in

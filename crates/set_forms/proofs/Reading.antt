@@ -4,6 +4,7 @@ use mathlib.Core.Bool.{Bool, true, false, not}
 use borrow.Author.Tests.{not-true, not-false, eq-eqb, ne-eqb}
 use mathlib.Core.List.{List}
 use Prim.Native.Nat.{ℕ, _+_}
+use Prim.Native.Char.{code}
 use lib.IntN.{ℤ}
 use lib.ListN.{getD}
 use Rattle.meaning.specs.Outcome.{ok}
@@ -29,16 +30,16 @@ module _ (r : SetRead) where
 
 -- the closing bracket at i; b is the byte there
 module _ (s : List ℕ) (i : ℕ) (v : SetV) {b : ℕ} (eb : b ≡ getD s i 0) where
-  pub closed-here : b ≡ 41 → got v (i + 1) ≡ closed s i v
+  pub closed-here : b ≡ code ")" → got v (i + 1) ≡ closed s i v
   unfolding closed
   closed-here e = rw (← eb, eq-eqb _ _ e)
 
-  pub closed-not : (b ≡ 41 → ⊥) → bad ≡ closed s i v
+  pub closed-not : (b ≡ code ")" → ⊥) → bad ≡ closed s i v
   unfolding closed
   closed-not e = rw (← eb, ne-eqb _ _ e)
 
 -- a literal's value
-module _ (l : List ℤ) (s : List ℕ) (d : ℕ) {b : ℕ} {r : Literal} (eb : b ≡ getD s 0 0) (ne : b ≡ 40 → ⊥) (er : r ≡ literalOf (literal s)) where
+module _ (l : List ℤ) (s : List ℕ) (d : ℕ) {b : ℕ} {r : Literal} (eb : b ≡ getD s 0 0) (ne : b ≡ code "(" → ⊥) (er : r ≡ literalOf (literal s)) where
   pub literal-value : {z : ℤ} {far : Bool} {n : ℕ} → r ≡ literals.Is z far n → {v : SetV} → v ≡ valueOf (ok (span z z)) → got v n ≡ arg (values l) d s
   literal-value {z} {far} {n} e ev =
       let k = literal-is (literal s) er e in

@@ -10,17 +10,18 @@ use lib.Dec.{eqb, leb}
 use lib.ListN.{length, getD, take, drop, drop-of-length-le, length-drop, length-append}
 use lib.Seq.{drop-cons, drop-drop, getD-drop, length-take-le}
 use borrow.Author.Tests.{eq-eqb, ne-eqb, le-leb, lt-leb, leb-true, leb-false}
+use Rattle.meaning.specs.Bytes.{LF}
 use Rattle.meaning.specs.Text.{Split, front, splitLines, lines, lineAt, cut, narrow, empty, shaped}
 use Rattle.meaning.proofs.Integers.{by-test, cond-case}
 use Rattle.meaning.proofs.Cut.{cut-past, line-at}
 use Rattle.sheet.specs.Feed.{feed}
 
 module _ (s : List ℕ) (i : ℕ) where
-  pub feed-more : i < length s → (getD s i 0 ≡ 10 → ⊥) → feed (drop i s) ≡ feed (drop (i + 1) s) + 1
+  pub feed-more : i < length s → (getD s i 0 ≡ LF → ⊥) → feed (drop i s) ≡ feed (drop (i + 1) s) + 1
   unfolding feed
   feed-more h a = rw (drop-cons s i 0 h, add-one i) (simp (ne-eqb _ _ a))
 
-  pub feed-here : i < length s → getD s i 0 ≡ 10 → feed (drop i s) ≡ 0
+  pub feed-here : i < length s → getD s i 0 ≡ LF → feed (drop i s) ≡ 0
   unfolding feed
   feed-here h a = rw (drop-cons s i 0 h) (simp (eq-eqb _ _ a))
 
@@ -31,7 +32,7 @@ module _ (s : List ℕ) (i : ℕ) where
 pub feed-le : (s : List ℕ) → feed s ≤ length s
 unfolding feed
 feed-le [] = omega arith
-feed-le (b ∷ s) = let r = feed-le s in cond-case (λ n. n ≤ suc (length s)) (eqb b 10) 0 (feed s + 1) (λ _. omega arith) (λ _. omega arith)
+feed-le (b ∷ s) = let r = feed-le s in cond-case (λ n. n ≤ suc (length s)) (eqb b LF) 0 (feed s + 1) (λ _. omega arith) (λ _. omega arith)
 
 -- the first line, and what is behind it
 record FirstLine (s : List ℕ) : Type 0 where
@@ -39,30 +40,30 @@ record FirstLine (s : List ℕ) : Type 0 where
   left : splitLines s .rest ≡ splitLines (drop (feed s + 1) s) .rest
 
 module _ (b : ℕ) (s : List ℕ) where
-  split-feed : eqb b 10 ≡ true → splitLines (b ∷ s) ≡ record { lines = [] ∷ lines s; rest = splitLines s .rest }
+  split-feed : eqb b LF ≡ true → splitLines (b ∷ s) ≡ record { lines = [] ∷ lines s; rest = splitLines s .rest }
   unfolding splitLines
   split-feed e = rw (e, splitLines)
 
-  split-byte : eqb b 10 ≡ false → splitLines (b ∷ s) ≡ front b (lines s) (splitLines s .rest)
+  split-byte : eqb b LF ≡ false → splitLines (b ∷ s) ≡ front b (lines s) (splitLines s .rest)
   unfolding splitLines
   split-byte e = rw (e, splitLines)
 
-  feed-none : eqb b 10 ≡ true → feed (b ∷ s) ≡ 0
+  feed-none : eqb b LF ≡ true → feed (b ∷ s) ≡ 0
   unfolding feed
   feed-none e = rw (e, feed)
 
-  feed-byte : eqb b 10 ≡ false → feed (b ∷ s) ≡ suc (feed s)
+  feed-byte : eqb b LF ≡ false → feed (b ∷ s) ≡ suc (feed s)
   unfolding feed
   feed-byte e = rw (e, feed) (add-one (feed s))
 
-  next-byte : eqb b 10 ≡ false → drop (feed (b ∷ s) + 1) (b ∷ s) ≡ drop (feed s + 1) s
+  next-byte : eqb b LF ≡ false → drop (feed (b ∷ s) + 1) (b ∷ s) ≡ drop (feed s + 1) s
   next-byte e =
       ap (λ (n : ℕ). drop (n + 1) (b ∷ s)) (feed-byte e) ∙ ap (λ (n : ℕ). drop n (b ∷ s)) (add-one (suc (feed s))) ∙ sym (ap (λ (n : ℕ). drop n s) (add-one (feed s)))
 
 first-line : (s : List ℕ) → feed s < length s → FirstLine s
 first-line [] h = absurd (omega arith)
 first-line (b ∷ s) h =
-    by-test (eqb b 10)
+    by-test (eqb b LF)
     (λ e. record {
       these = ap (λ (x : Split). x .lines) (split-feed b s e) ∙ sym (ap (λ (n : ℕ). take n (b ∷ s) ∷ lines (drop (n + 1) (b ∷ s))) (feed-none b s e));
       left = ap (λ (x : Split). x .rest) (split-feed b s e) ∙ sym (ap (λ (n : ℕ). splitLines (drop (n + 1) (b ∷ s)) .rest) (feed-none b s e));
@@ -82,7 +83,7 @@ no-line : (s : List ℕ) → length s ≤ feed s → splitLines s ≡ record { l
 unfolding splitLines
 no-line [] h = refl
 no-line (b ∷ s) h =
-    by-test (eqb b 10)
+    by-test (eqb b LF)
     (λ e. absurd (let k = feed-none b s e in omega arith))
     (λ e. split-byte b s e ∙ ap (λ (x : Split). front b (x .lines) (x .rest)) (no-line s (let k = feed-byte b s e in omega arith)))
 
@@ -134,7 +135,7 @@ pub lines-behind : (s : List ℕ) (k : ℕ) → lines (drop (length (cut s k)) s
 unfolding splitLines cut
 lines-behind [] k = sym (drop-none k)
 lines-behind (b ∷ s) zero = refl
-lines-behind (b ∷ s) (suc k) = go (eqb b 10) (lines-behind s)
+lines-behind (b ∷ s) (suc k) = go (eqb b LF) (lines-behind s)
   where
     front-drop : (ls : List (List ℕ)) (r : List ℕ) → drop (suc k) (front b ls r .lines) ≡ drop (suc k) ls
     front-drop [] r = refl
@@ -177,8 +178,8 @@ module _ (s : List ℕ) (i at : ℕ) (a : at ≡ length (cut s i)) {e : ℕ} (ee
 
   pub start-next : e < length s → e + 1 ≡ length (cut s (i + 1))
   start-next h =
-      let l = ap length (line-at s .within i (line-inside h)) ∙ length-append (cut s i) (lineAt s (suc i) ++ 10 ∷ []) in
-      let m = length-append (lineAt s (suc i)) (10 ∷ []) in
+      let l = ap length (line-at s .within i (line-inside h)) ∙ length-append (cut s i) (lineAt s (suc i) ++ LF ∷ []) in
+      let m = length-append (lineAt s (suc i)) (LF ∷ []) in
       sym (ap (λ (k : ℕ). length (cut s k)) (add-one i) ∙ l ∙ omega (arith, m, line-long h, a, ee))
 
   -- fewer lines

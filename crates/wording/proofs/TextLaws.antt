@@ -10,40 +10,41 @@ use lib.IntN.{ℤ, pos}
 use lib.ListN.{length, getD, take, drop, length-append}
 use lib.Seq.{take-all}
 use Rattle.meaning.specs.Refusals.{zeroDivisor}
+use Rattle.meaning.specs.Bytes.{bytes}
 use Rattle.meaning.specs.NumberIntervals.{intervals}
 use Rattle.meaning.specs.Listing.{decimal, decimalZ, troubleLine, passLine, intervalTexts, registerLine}
 use Rattle.wording.specs.Texts.{wordLine, troubleStart, intervalText}
 
-pub pass-line : (n : ℕ) → wordLine (112 ∷ 97 ∷ 115 ∷ 115 ∷ 32 ∷ []) n ≡ passLine n
+pub pass-line : (n : ℕ) → wordLine (bytes "pass ") n ≡ passLine n
 unfolding wordLine passLine
 pass-line n = refl
 
-pub refused-start : (k : ℕ) → k < 20 → (114 ∷ 101 ∷ 102 ∷ 117 ∷ 115 ∷ 101 ∷ 100 ∷ 32 ∷ []) ++ decimal k ≡ troubleStart k
+pub refused-start : (k : ℕ) → k < 20 → bytes "refused " ++ decimal k ≡ troubleStart k
 unfolding troubleStart
 refused-start k h = rw (lt-ltb k 20 h)
 
-pub stop-start : (k : ℕ) → 20 ≤ k → (115 ∷ 116 ∷ 111 ∷ 112 ∷ 32 ∷ []) ++ decimal k ≡ troubleStart k
+pub stop-start : (k : ℕ) → 20 ≤ k → bytes "stop " ++ decimal k ≡ troubleStart k
 unfolding troubleStart
 stop-start k h = rw (le-ltb k 20 h)
 
 -- "stop" is the shorter word
-pub stop-room : (k : ℕ) → length ((115 ∷ 116 ∷ 111 ∷ 112 ∷ 32 ∷ []) ++ decimal k) ≤ length (troubleStart k)
+pub stop-room : (k : ℕ) → length (bytes "stop " ++ decimal k) ≤ length (troubleStart k)
 unfolding troubleStart
 stop-room k = by (ltb k zeroDivisor)
   where
     by : (t : Bool) →
-        length ((115 ∷ 116 ∷ 111 ∷ 112 ∷ 32 ∷ []) ++ decimal k)
-        ≤ length (cond t (114 ∷ 101 ∷ 102 ∷ 117 ∷ 115 ∷ 101 ∷ 100 ∷ 32 ∷ []) (115 ∷ 116 ∷ 111 ∷ 112 ∷ 32 ∷ []) ++ decimal k)
+        length (bytes "stop " ++ decimal k)
+        ≤ length (cond t (bytes "refused ") (bytes "stop ") ++ decimal k)
     by true = omega arith
     by false = omega arith
 
-pub trouble-line : (k l : ℕ) → troubleStart k ++ wordLine (32 ∷ []) l ≡ troubleLine k l
+pub trouble-line : (k l : ℕ) → troubleStart k ++ wordLine (bytes " ") l ≡ troubleLine k l
 unfolding troubleStart wordLine troubleLine
 trouble-line k l = by (ltb k zeroDivisor)
   where
     by : (t : Bool) →
-        (cond t (114 ∷ 101 ∷ 102 ∷ 117 ∷ 115 ∷ 101 ∷ 100 ∷ 32 ∷ []) (115 ∷ 116 ∷ 111 ∷ 112 ∷ 32 ∷ []) ++ decimal k) ++ (((32 ∷ []) ++ decimal l) ++ 10 ∷ [])
-        ≡ cond t (114 ∷ 101 ∷ 102 ∷ 117 ∷ 115 ∷ 101 ∷ 100 ∷ []) (115 ∷ 116 ∷ 111 ∷ 112 ∷ []) ++ (32 ∷ decimal k ++ (32 ∷ decimal l ++ 10 ∷ []))
+        (cond t (bytes "refused ") (bytes "stop ") ++ decimal k) ++ ((bytes " " ++ decimal l) ++ bytes "\n")
+        ≡ cond t (bytes "refused") (bytes "stop") ++ (bytes " " ++ decimal k ++ (bytes " " ++ decimal l ++ bytes "\n"))
     by true = refl
     by false = refl
 
@@ -64,13 +65,13 @@ unfolding intervals intervalTexts intervalText
 first-interval [] h = absurd (omega arith)
 first-interval (a ∷ []) h = absurd (omega arith)
 first-interval (a ∷ b ∷ l) h =
-    ap (λ (t : List ℤ). (((32 ∷ []) ++ decimalZ a) ++ ((46 ∷ 46 ∷ []) ++ decimalZ b)) ++ intervalTexts (intervals t)) (take-all (length (a ∷ b ∷ l) - 2) l (omega arith))
+    ap (λ (t : List ℤ). ((bytes " " ++ decimalZ a) ++ (bytes ".." ++ decimalZ b)) ++ intervalTexts (intervals t)) (take-all (length (a ∷ b ∷ l) - 2) l (omega arith))
     ∙ simp append-assoc
 
 -- how many bytes an interval takes, alone and before a text
 pub interval-size : (a b : ℤ) → length (intervalText a b) ≡ 3 + (length (decimalZ a) + length (decimalZ b))
 unfolding intervalText
-interval-size a b = omega (arith, length-append ((32 ∷ []) ++ decimalZ a) ((46 ∷ 46 ∷ []) ++ decimalZ b))
+interval-size a b = omega (arith, length-append (bytes " " ++ decimalZ a) (bytes ".." ++ decimalZ b))
 
 pub interval-room : (a b : ℤ) (n : ℕ) → 3 + (length (decimalZ a) + length (decimalZ b)) ≤ n → length (intervalText a b) ≤ n
 interval-room a b n h = omega (arith, interval-size a b)
@@ -92,6 +93,6 @@ first-size l h =
 pub size-as : {a b : ℤ} → a ≡ b → length (decimalZ a) ≡ length (decimalZ b)
 size-as p i = length (decimalZ (p i))
 
-pub register-line : (r : ℕ) (l : List ℤ) → (((114 ∷ []) ++ decimal r) ++ intervalTexts (intervals l)) ++ 10 ∷ [] ≡ registerLine r (intervals l)
+pub register-line : (r : ℕ) (l : List ℤ) → ((bytes "r" ++ decimal r) ++ intervalTexts (intervals l)) ++ bytes "\n" ≡ registerLine r (intervals l)
 unfolding registerLine
 register-line r l = simp append-assoc

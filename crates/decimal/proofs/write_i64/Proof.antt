@@ -1,10 +1,11 @@
 -- A minus and the digits of the magnitude, or the digits alone. Assumes nothing.
 use mathlib.Core.Path.{_≡_, ap, _∙_}
-use mathlib.Core.List.{[], _∷_, _++_}
+use mathlib.Core.List.{_++_}
 use Prim.Native.Nat.{ℕ}
 use lib.IntN.{ℤ, pos, natAbs}
 use lib.Signed.{_≤ℤ_, _<ℤ_}
 use mir.Facts.{toZ-ofZ}
+use Rattle.meaning.specs.Bytes.{bytes}
 use Rattle.meaning.specs.Listing.{decimal, decimalZ}
 use Rattle.meaning.proofs.Integers.{zarith}
 use Rattle.meaning.proofs.Machine.{num, cast-ok}
@@ -15,8 +16,8 @@ use Rattle.decimal.proofs.write_i64.Statement.{statement}
 use Rattle.decimal.proofs.write_i64.Tie as tie
 
 -- the minus and the digits that `size` gives, read back from the machine's x
-negative : (x y : ℤ) (n : ℕ) → y ≡ x → n ≡ natAbs y → x <ℤ pos 0 → (45 ∷ []) ++ decimal n ≡ decimalZ x
-negative x y n e d h = ap (λ (n : ℕ). 45 ∷ decimal n) (d ∙ ap natAbs e) ∙ minus-digits x h
+negative : (x y : ℤ) (n : ℕ) → y ≡ x → n ≡ natAbs y → x <ℤ pos 0 → bytes "-" ++ decimal n ≡ decimalZ x
+negative x y n e d h = ap (λ (n : ℕ). bytes "-" ++ decimal n) (d ∙ ap natAbs e) ∙ minus-digits x h
 
 slice-aggregate-copy-bytes : tie.Need-slice-aggregate-copy-bytes
 slice-aggregate-copy-bytes c = search needs
@@ -25,7 +26,7 @@ copy-bytes-requires : tie.Need-copy-bytes-requires
 copy-bytes-requires c κs =
     let s = c .before .before .before .before in
     let h : s .args .x <ℤ pos 0 = omega (zarith, num (s .fits .x)) in
-    first-room (45 ∷ []) (decimal (natAbs (s .args .x))) _ (room-as _ (minus-digits (s .args .x) h) (s .pre))
+    first-room (bytes "-") (decimal (natAbs (s .args .x))) _ (room-as _ (minus-digits (s .args .x) h) (s .pre))
 
 sub-write-nat : tie.Need-sub-write-nat
 sub-write-nat c = search needs

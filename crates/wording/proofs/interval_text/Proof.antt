@@ -1,7 +1,8 @@
 -- The start behind a space, and the end behind two points in what is left. Assumes nothing.
-use mathlib.Core.List.{[], _∷_, _++_}
+use mathlib.Core.List.{_++_}
 use Rattle.meaning.proofs.Machine.{rd}
 use mir.Facts.{toZ-ofZ}
+use Rattle.meaning.specs.Bytes.{bytes}
 use Rattle.meaning.specs.Listing.{decimalZ}
 use Rattle.decimal.proofs.Chain.{written-as, written-next, room-as, room-next, first-room}
 use Rattle.wording.specs.Texts.{intervalText}
@@ -17,7 +18,7 @@ word-i64-requires : tie.Need-word-i64-requires
 unfolding intervalText
 word-i64-requires c κs =
     let s = c .before .before .before in
-    first-room ((32 ∷ []) ++ decimalZ (rd (s .args .lo))) ((46 ∷ 46 ∷ []) ++ decimalZ (rd (s .args .hi))) _ (room-as _ (interval-as (toZ-ofZ (s .fits .lo)) (toZ-ofZ (s .fits .hi))) (s .pre))
+    first-room (bytes " " ++ decimalZ (rd (s .args .lo))) (bytes ".." ++ decimalZ (rd (s .args .hi))) _ (room-as _ (interval-as (toZ-ofZ (s .fits .lo)) (toZ-ofZ (s .fits .hi))) (s .pre))
 
 sub-word-i64 : tie.Need-sub-word-i64
 sub-word-i64 c = search needs
@@ -35,7 +36,7 @@ word-i64-requires-2 : tie.Need-word-i64-requires-2
 unfolding intervalText
 word-i64-requires-2 c κs =
     let s = c .before .before .before .before .before .before .before .before in
-    room-next (c .before .before .before .before .word-i64 .ensures) ((46 ∷ 46 ∷ []) ++ decimalZ (rd (s .args .hi))) (room-as _ (interval-as (toZ-ofZ (s .fits .lo)) (toZ-ofZ (s .fits .hi))) (s .pre))
+    room-next (c .before .before .before .before .word-i64 .ensures) (bytes ".." ++ decimalZ (rd (s .args .hi))) (room-as _ (interval-as (toZ-ofZ (s .fits .lo)) (toZ-ofZ (s .fits .hi))) (s .pre))
 
 add-result : tie.Need-add-result
 add-result c = search needs

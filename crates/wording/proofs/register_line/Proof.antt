@@ -1,5 +1,6 @@
 -- The register, its intervals in what is left behind it, and LF in what is left then. Assumes nothing.
-use mathlib.Core.List.{[], _∷_, _++_}
+use mathlib.Core.List.{_++_}
+use Rattle.meaning.specs.Bytes.{bytes}
 use Rattle.meaning.specs.Listing.{decimal}
 use Rattle.decimal.proofs.Chain.{written-as, written-next, room-as, room-next, first-room}
 use Rattle.wording.proofs.TextLaws.{register-line}
@@ -16,8 +17,8 @@ word-nat-requires : tie.Need-word-nat-requires
 word-nat-requires c κs =
     let s = c .before .before .before in
     let e = register-line (s .args .r) (s .args .ends .now) in
-    let h = first-room (((114 ∷ []) ++ decimal (s .args .r)) ++ (intervalTexts (intervals (s .args .ends .now)))) (10 ∷ []) _ (room-as _ e (s .pre)) in
-    first-room ((114 ∷ []) ++ decimal (s .args .r)) (intervalTexts (intervals (s .args .ends .now))) _ h
+    let h = first-room ((bytes "r" ++ decimal (s .args .r)) ++ (intervalTexts (intervals (s .args .ends .now)))) (bytes "\n") _ (room-as _ e (s .pre)) in
+    first-room (bytes "r" ++ decimal (s .args .r)) (intervalTexts (intervals (s .args .ends .now))) _ h
 
 sub-interval-texts : tie.Need-sub-interval-texts
 sub-interval-texts c = search needs
@@ -32,7 +33,7 @@ interval-texts-requires : tie.Need-interval-texts-requires
 interval-texts-requires c κs =
     let s = c .before .before .before .before .before .before .before in
     let e = register-line (s .args .r) (s .args .ends .now) in
-    let h = first-room (((114 ∷ []) ++ decimal (s .args .r)) ++ (intervalTexts (intervals (s .args .ends .now)))) (10 ∷ []) _ (room-as _ e (s .pre)) in
+    let h = first-room ((bytes "r" ++ decimal (s .args .r)) ++ (intervalTexts (intervals (s .args .ends .now)))) (bytes "\n") _ (room-as _ e (s .pre)) in
     room-next (c .before .before .before .word-nat .ensures) (intervalTexts (intervals (s .args .ends .now))) h
 
 add-to : tie.Need-add-to
@@ -54,8 +55,8 @@ copy-bytes-requires : tie.Need-copy-bytes-requires
 copy-bytes-requires c κs =
     let s = c .before .before .before .before .before .before .before .before .before .before .before .before in
     let e = register-line (s .args .r) (s .args .ends .now) in
-    let h = first-room (((114 ∷ []) ++ decimal (s .args .r)) ++ (intervalTexts (intervals (s .args .ends .now)))) (10 ∷ []) _ (room-as _ e (s .pre)) in
-    room-next (written-next (c .before .before .before .before .before .before .before .before .word-nat .ensures) h (c .before .before .before .before .interval-texts .ensures)) (10 ∷ []) (room-as _ e (s .pre))
+    let h = first-room ((bytes "r" ++ decimal (s .args .r)) ++ (intervalTexts (intervals (s .args .ends .now)))) (bytes "\n") _ (room-as _ e (s .pre)) in
+    room-next (written-next (c .before .before .before .before .before .before .before .before .word-nat .ensures) h (c .before .before .before .before .interval-texts .ensures)) (bytes "\n") (room-as _ e (s .pre))
 
 add-result : tie.Need-add-result
 add-result c = search needs
@@ -67,7 +68,7 @@ returns : tie.Need-returns
 returns c =
     let s = c .before .before .before .before .before .before .before .before .before .before .before .before .before .before .before in
     let e = register-line (s .args .r) (s .args .ends .now) in
-    let h = first-room (((114 ∷ []) ++ decimal (s .args .r)) ++ (intervalTexts (intervals (s .args .ends .now)))) (10 ∷ []) _ (room-as _ e (s .pre)) in
+    let h = first-room ((bytes "r" ++ decimal (s .args .r)) ++ (intervalTexts (intervals (s .args .ends .now)))) (bytes "\n") _ (room-as _ e (s .pre)) in
     let w = written-next (c .before .before .before .before .before .before .before .before .before .before .before .word-nat .ensures) h (c .before .before .before .before .before .before .before .interval-texts .ensures) in
     written-as e (written-next w (room-as _ e (s .pre)) (c .before .before .copy-bytes .ensures))
 

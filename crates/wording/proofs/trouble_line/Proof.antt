@@ -1,5 +1,5 @@
 -- The word with its number, and the rest of the line in what is left. Assumes nothing.
-use mathlib.Core.List.{[], _∷_}
+use Rattle.meaning.specs.Bytes.{bytes}
 use Rattle.decimal.proofs.Chain.{written-as, written-next, room-as, room-next, first-room}
 use Rattle.wording.specs.Texts.{wordLine, troubleStart}
 use Rattle.wording.proofs.TextLaws.{trouble-line}
@@ -10,7 +10,7 @@ use Rattle.wording.proofs.trouble_line.Tie as tie
 trouble-start-requires : tie.Need-trouble-start-requires
 trouble-start-requires c κs =
     let s = c .before .before in
-    first-room (troubleStart (s .args .k)) (wordLine (32 ∷ []) (s .args .l)) _ (room-as _ (trouble-line (s .args .k) (s .args .l)) (s .pre))
+    first-room (troubleStart (s .args .k)) (wordLine (bytes " ") (s .args .l)) _ (room-as _ (trouble-line (s .args .k) (s .args .l)) (s .pre))
 
 sub-word-line : tie.Need-sub-word-line
 sub-word-line c = search needs
@@ -27,7 +27,7 @@ slice-aggregate-word-line c = search needs
 word-line-requires : tie.Need-word-line-requires
 word-line-requires c κs =
     let s = c .before .before .before .before .before .before .before in
-    room-next (c .before .before .before .before .trouble-start .ensures) (wordLine (32 ∷ []) (s .args .l)) (room-as _ (trouble-line (s .args .k) (s .args .l)) (s .pre))
+    room-next (c .before .before .before .before .trouble-start .ensures) (wordLine (bytes " ") (s .args .l)) (room-as _ (trouble-line (s .args .k) (s .args .l)) (s .pre))
 
 add-result : tie.Need-add-result
 add-result c = search needs

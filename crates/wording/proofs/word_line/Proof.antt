@@ -1,5 +1,6 @@
 -- The word with its number, and LF in what is left. Assumes nothing.
-use mathlib.Core.List.{[], _∷_, _++_}
+use mathlib.Core.List.{_++_}
+use Rattle.meaning.specs.Bytes.{bytes}
 use Rattle.meaning.specs.Listing.{decimal}
 use Rattle.decimal.proofs.Chain.{written-next, room-next, first-room}
 use Rattle.wording.specs.Texts.{wordLine}
@@ -11,7 +12,7 @@ word-nat-requires : tie.Need-word-nat-requires
 unfolding wordLine
 word-nat-requires c κs =
     let s = c .before .before .before in
-    first-room (s .args .word .now ++ decimal (s .args .n)) (10 ∷ []) _ (s .pre)
+    first-room (s .args .word .now ++ decimal (s .args .n)) (bytes "\n") _ (s .pre)
 
 sub-copy-bytes : tie.Need-sub-copy-bytes
 sub-copy-bytes c = search needs
@@ -29,7 +30,7 @@ copy-bytes-requires : tie.Need-copy-bytes-requires
 unfolding wordLine
 copy-bytes-requires c κs =
     let s = c .before .before .before .before .before .before .before .before in
-    room-next (c .before .before .before .before .word-nat .ensures) (10 ∷ []) (s .pre)
+    room-next (c .before .before .before .before .word-nat .ensures) (bytes "\n") (s .pre)
 
 add-result : tie.Need-add-result
 add-result c = search needs
