@@ -16,8 +16,8 @@ use Rattle.meaning.specs.Number.{ONE, eqZ}
 use Rattle.meaning.specs.Bools.{BoolInterval}
 use Rattle.meaning.specs.Interval.{Interval, only}
 use Rattle.meaning.specs.NumberIntervals.{Set, filled, zeroOnly, constant, sameNumber, intervals, ofBools}
-use Rattle.meaning.proofs.Integers.{by-test, zarith, eqZ-is}
-use Rattle.meaning.proofs.Machine.{same}
+use Rattle.laws.proofs.Integers.{by-test, zarith, eqZ-is}
+use Rattle.laws.proofs.Machine.{same}
 
 pub filled-long : (l : List ℤ) → ltb 1 (length l) ≡ filled (intervals l)
 unfolding intervals

@@ -10,9 +10,9 @@ use lib.IntN.{ℤ}
 use Rattle.meaning.specs.Lists.{over}
 use Rattle.meaning.specs.Interval.{Interval, Proper, each}
 use Rattle.meaning.specs.NumberIntervals.{flat, intervals}
-use Rattle.meaning.proofs.Members.{AllProper}
-use Rattle.meaning.proofs.Flat.{flat-append}
-use Rattle.meaning.proofs.Over.{mid-tail, tail-whole, tail-length, tail-take, tail-drop}
+use Rattle.laws.proofs.Members.{AllProper}
+use Rattle.laws.proofs.Flat.{flat-append}
+use Rattle.laws.proofs.Over.{mid-tail, tail-whole, tail-length, tail-take, tail-drop}
 use Rattle.slices.specs.Wrote.{Wrote}
 use Rattle.sorting.proofs.Steps.{end-at, drop-two, drop-later}
 

@@ -10,9 +10,9 @@ use mathlib.Core.Bool.{Bool}
 use Rattle.meaning.specs.Interval.{Interval, Proper, each}
 use Rattle.meaning.specs.NumberIntervals.{rebuild, eachPair, flat, intervals}
 use Rattle.meaning.specs.SetCalls.{need2}
-use Rattle.meaning.proofs.Members.{AllProper, length-each, all-pairs, normal-proper}
-use Rattle.meaning.proofs.Flat.{intervals-flat, length-flat, length-intervals}
-use Rattle.meaning.proofs.Over.{take-over, drop-over}
+use Rattle.laws.proofs.Members.{AllProper, length-each, all-pairs, normal-proper}
+use Rattle.laws.proofs.Flat.{intervals-flat, length-flat, length-intervals}
+use Rattle.laws.proofs.Over.{take-over, drop-over}
 use Rattle.slices.specs.Wrote.{Wrote}
 use Rattle.slices.proofs.Lent.{same-long}
 use Rattle.sorting.proofs.Steps.{drop-later}

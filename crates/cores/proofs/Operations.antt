@@ -13,15 +13,15 @@ use Rattle.meaning.specs.Number.{Op1}
 use Rattle.meaning.specs.Interval.{Interval, Proper, each, negPair, absPair}
 use Rattle.meaning.specs.NumberIntervals.{Set, rebuild, eachPair, ofBools, set1, set2, flag1, flag2, intervals, normal}
 use Rattle.meaning.specs.SetCalls.{factor1, factor2}
-use Rattle.meaning.proofs.Members.{AllProper}
-use Rattle.meaning.proofs.Flat.{length-flat}
-use Rattle.meaning.proofs.CheckSets.{zero-normal}
-use Rattle.meaning.proofs.Demand2.{demand2}
-use Rattle.meaning.proofs.Signs.{neg-proper, abs-proper}
-use Rattle.meaning.proofs.Sums.{add-proper, sub-proper}
-use Rattle.meaning.proofs.Products.{mul-proper}
-use Rattle.meaning.proofs.Quotients.{div-proper}
-use Rattle.meaning.proofs.Remainders.{rem-proper}
+use Rattle.laws.proofs.Members.{AllProper}
+use Rattle.laws.proofs.Flat.{length-flat}
+use Rattle.laws.proofs.CheckSets.{zero-normal}
+use Rattle.laws.proofs.Demand2.{demand2}
+use Rattle.laws.proofs.Signs.{neg-proper, abs-proper}
+use Rattle.laws.proofs.Sums.{add-proper, sub-proper}
+use Rattle.laws.proofs.Products.{mul-proper}
+use Rattle.laws.proofs.Quotients.{div-proper}
+use Rattle.laws.proofs.Remainders.{rem-proper}
 use Rattle.slices.specs.Wrote.{Wrote}
 use Rattle.cores.specs.declared.Op.{Op}
 use Rattle.cores.specs.declared.Op.the-variants.{Neg, Abs, Add, Sub, Mul, Div, Rem}

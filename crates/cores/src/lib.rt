@@ -9,7 +9,7 @@ ghost use lib.ListN.{length};
 ghost use Rattle.meaning.specs.Interval.{Proper, each};
 ghost use Rattle.meaning.specs.NumberIntervals.{eachPair, intervals, zeroFound};
 ghost use Rattle.meaning.specs.SetCalls.{need2};
-ghost use Rattle.meaning.proofs.Members.{AllProper};
+ghost use Rattle.laws.proofs.Members.{AllProper};
 ghost use Rattle.slices.specs.Wrote.{Wrote};
 ghost use Rattle.sets.specs.Sets.{Argument};
 ghost use Rattle.cores.specs.Cored.{Cored};

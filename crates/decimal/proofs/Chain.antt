@@ -5,7 +5,7 @@ use borrow.Rule.Slice.PartMut.{midOf, putMid}
 use Prim.Native.Nat.{ℕ, _+_, _-_, _≤_}
 use native.Mathlib.Omega.{arith}
 use lib.ListN.{length, take, length-append, length-drop}
-use Rattle.meaning.proofs.Over.{over-nil, take-over, length-over, tail-next, mid-tail}
+use Rattle.laws.proofs.Over.{over-nil, take-over, length-over, tail-next, mid-tail}
 use Rattle.decimal.specs.Written.{Written}
 
 pub written-as : {x y new old : List ℕ} {r : ℕ} → x ≡ y → Written r x new old → Written r y new old

@@ -9,7 +9,7 @@ use lib.ListN.{length, set, drop, length-set}
 use lib.IntN.{ℤ, pos, negsuc, natAbs}
 use lib.Signed.{_≤ℤ_, _<ℤ_}
 use lib.Seq.{drop-cons, drop-set-lt, getD-set-same}
-use Rattle.meaning.proofs.Integers.{lt-in}
+use Rattle.laws.proofs.Integers.{lt-in}
 use Rattle.meaning.specs.Bytes.{bytes}
 use Rattle.meaning.specs.Listing.{digitsBefore, decimal, decimalZ}
 

@@ -11,7 +11,7 @@ use mir.Facts.{toZ-ofZ}
 use Rattle.meaning.specs.Number.{Op1, Op2}
 use Rattle.meaning.specs.SetCalls.{Returned}
 use Rattle.meaning.specs.Demand2Calls.{Right1, Right2, RightUnion, RightIntersect}
-use Rattle.meaning.proofs.Machine.{rd, ok}
+use Rattle.laws.proofs.Machine.{rd, ok}
 
 -- an answer of any type
 module _ {A : Type 0} {x : ℤ} {r : A} (g : SFits w64 x) where

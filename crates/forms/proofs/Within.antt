@@ -8,7 +8,7 @@ use lib.Dec.{eqb}
 use lib.ListN.{length, getD, drop}
 use borrow.Author.Tests.{eqb-true}
 use Rattle.meaning.specs.Reading.{Got, got, bad, mapGot, andThen, closed, literal, register, Head, isReg, is1, is2, isNone, head, start, Algebra, onHead, formWith, argWith, arg}
-use Rattle.meaning.proofs.Integers.{cond-case}
+use Rattle.laws.proofs.Integers.{cond-case}
 use Rattle.literals.proofs.Within.{byte-lt, Within, literal-within, part-le}
 
 pub start-le : (s : List ℕ) → start s ≤ 5

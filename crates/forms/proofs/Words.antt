@@ -11,7 +11,7 @@ use lib.Seq.{drop-cons}
 use borrow.Author.Tests.{eq-eqb, ne-eqb, eqb-true, lt-ltb, ltb-true, ltb-false}
 use Rattle.meaning.specs.Bytes.{bytes}
 use Rattle.meaning.specs.Reading.{begins, Head, isNone, head}
-use Rattle.meaning.proofs.Integers.{by-test, and-yes, and-both, same-test}
+use Rattle.laws.proofs.Integers.{by-test, and-yes, and-both, same-test}
 use Rattle.forms.specs.Packed.{packed, word2, word3, short, long}
 
 -- no byte of the word is 0, which stands past the end of a text

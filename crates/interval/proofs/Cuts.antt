@@ -14,8 +14,8 @@ use mir.Facts.{toZ-ofZ}
 use Rattle.meaning.specs.Number.{MIN, MAX, within}
 use Rattle.meaning.specs.Interval.{Interval, span, without, each, PairOp}
 use Rattle.meaning.specs.NumberIntervals.{flat}
-use Rattle.meaning.proofs.Integers.{zarith, by-test, cond-same, add-parts, sub-parts, suc-parts, pred-parts}
-use Rattle.meaning.proofs.Machine.{num, back, rd, lit, ltZ-is}
+use Rattle.laws.proofs.Integers.{zarith, by-test, cond-same, add-parts, sub-parts, suc-parts, pred-parts}
+use Rattle.laws.proofs.Machine.{num, back, rd, lit, ltZ-is}
 use Rattle.slices.specs.Wrote.{Wrote}
 use Rattle.slices.proofs.Lent.{two-first, two-second, two-wrote}
 

@@ -6,7 +6,7 @@ use lib.IntN.{ℤ, pos, negℤ}
 use lib.Signed.{leZ, _≤ℤ_, _<ℤ_}
 use Rattle.meaning.specs.Number.{MIN, MAX, within, eqZ, larger}
 use Rattle.meaning.specs.Interval.{span, only, negPair, absRest, absPair}
-use Rattle.meaning.proofs.Integers.{zarith, is-within, below-out}
+use Rattle.laws.proofs.Integers.{zarith, is-within, below-out}
 
 module _ (s e : ℤ) where
   pub neg-least : s ≡ MIN → e ≡ MIN → only MIN ≡ negPair s e

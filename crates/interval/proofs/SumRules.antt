@@ -11,8 +11,8 @@ use mir.Val.{SFits}
 use mir.Facts.{toZ-ofZ}
 use Rattle.meaning.specs.Number.{wrap}
 use Rattle.meaning.specs.Interval.{whole, one, two, pieces, unscaled, far, split}
-use Rattle.meaning.proofs.Integers.{zarith, by-test, add-parts, sub-parts}
-use Rattle.meaning.proofs.Machine.{rd}
+use Rattle.laws.proofs.Integers.{zarith, by-test, add-parts, sub-parts}
+use Rattle.laws.proofs.Machine.{rd}
 
 -- the wrapped ends by whether they are far apart
 pub split-is : (p q : ℤ) {u v : ℤ} {all : Bool} → all ≡ far p q → u ≡ wrap p → v ≡ wrap q → pieces unscaled (cond all whole (cond (leZ u v) (one u v) (two u v))) ≡ pieces unscaled (split p q)

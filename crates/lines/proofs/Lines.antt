@@ -19,9 +19,9 @@ use Rattle.meaning.specs.Bytes.{bytes}
 use Rattle.meaning.specs.Outcome.{Res, ok, stop}
 use Rattle.meaning.specs.Sheet.{beyond, Form, put, hold, Line, act, farForm, farAct, farLine, crossedAct, crossedLine}
 use Rattle.meaning.specs.Reading.{Got, got, bad, mapGot, andThen, byte, closed, begins, literal, register, arg, tree, onRegister, bounds, value, actOf, lineOf, wholeLine, judged, readLine}
-use Rattle.meaning.proofs.Integers.{by-test, cond-case}
-use Rattle.meaning.proofs.Fusion.{map-cond, map-any, map-closed, far-arg}
-use Rattle.meaning.proofs.Machine.{rd, ltZ-is}
+use Rattle.laws.proofs.Integers.{by-test, cond-case}
+use Rattle.laws.proofs.Fusion.{map-cond, map-any, map-closed, far-arg}
+use Rattle.laws.proofs.Machine.{rd, ltZ-is}
 use Rattle.literals.specs.Answer.{kept, literalOf}
 use Rattle.literals.specs.declared.Literal.{Literal}
 use Rattle.literals.specs.declared.Literal.the-variants as literal

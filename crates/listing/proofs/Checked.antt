@@ -7,7 +7,7 @@ use Prim.Native.Nat.{ℕ}
 use native.Mathlib.Omega.{arith}
 use Rattle.meaning.specs.Run.{Verdict, verdict}
 use Rattle.meaning.specs.Check.{setsNeed, workNeed, setsLeftBy, checkCall, checkSets}
-use Rattle.meaning.proofs.Demand3Calls.{check-call}
+use Rattle.laws.proofs.Demand3Calls.{check-call}
 use Rattle.listing.specs.Told.{Told}
 
 pub told-by : (t : List ℕ) (sets work : List ℤ) {l : List ℤ} {v : Verdict} {number line count : ℕ} → length sets ≡ setsNeed → length work ≡ workNeed

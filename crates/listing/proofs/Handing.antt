@@ -8,7 +8,7 @@ use mathlib.Core.List.{List}
 use Prim.Native.Nat.{ℕ, _≤_, _<_}
 use borrow.Author.Tests.{le-leb, lt-leb, leb-true}
 use Rattle.meaning.specs.Lists.{over}
-use Rattle.meaning.proofs.Integers.{if-yes, if-no}
+use Rattle.laws.proofs.Integers.{if-yes, if-no}
 use Rattle.listing.specs.Handed.{handed, handedOver}
 use Rattle.listing.specs.declared.Listed.the-variants as listed
 

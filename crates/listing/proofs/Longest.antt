@@ -16,12 +16,12 @@ use Rattle.meaning.specs.Run.{worked, judge}
 use Rattle.meaning.specs.Check.{Bands, at, shipLimit, check, checkText}
 use Rattle.meaning.specs.CheckSets.{SoundBands}
 use Rattle.meaning.specs.Listing.{digitsBefore, decimal, decimalZ, troubleLine, intervalTexts, registerLine, registerLines, listed, passLine, outcomeText, readText, listing}
-use Rattle.meaning.proofs.Integers.{cond-case}
-use Rattle.meaning.proofs.Decimals.{decimal-most, decimalZ-most}
-use Rattle.meaning.proofs.Members.{AllProper, between, normal-proper}
-use Rattle.meaning.proofs.Integers.{≤ℤ-trans}
-use Rattle.meaning.proofs.Cut.{reads, read-length}
-use Rattle.meaning.proofs.CheckSets.{passed-sound}
+use Rattle.laws.proofs.Integers.{cond-case}
+use Rattle.laws.proofs.Decimals.{decimal-most, decimalZ-most}
+use Rattle.laws.proofs.Members.{AllProper, between, normal-proper}
+use Rattle.laws.proofs.Integers.{≤ℤ-trans}
+use Rattle.laws.proofs.Cut.{reads, read-length}
+use Rattle.laws.proofs.CheckSets.{passed-sound}
 use Rattle.listing.specs.Longest.{longest}
 
 -- of an interval, and of a register's line

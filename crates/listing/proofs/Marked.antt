@@ -12,7 +12,7 @@ use Rattle.meaning.specs.NumberIntervals.{intervals}
 use Rattle.meaning.specs.Sheet.{registers}
 use Rattle.meaning.specs.Check.{slotSize, countIn, setIn}
 use Rattle.meaning.specs.Listing.{registerLine}
-use Rattle.meaning.proofs.Integers.{lt-in, if-yes, if-no}
+use Rattle.laws.proofs.Integers.{lt-in, if-yes, if-no}
 use Rattle.listing.specs.Texts.{markedLine, markedLines}
 
 pub count-negative : (x : ℤ) → x <ℤ pos 0 → 0 ≡ countIn x

@@ -16,13 +16,13 @@ use Rattle.meaning.specs.Sheet.{registers, put, hold, Line, input, act}
 use Rattle.meaning.specs.Reading.{readLine}
 use Rattle.meaning.specs.Text.{lineAt, sheet, read}
 use Rattle.meaning.specs.Listing.{wroteTo, listed}
-use Rattle.meaning.proofs.Integers.{by-test}
-use Rattle.meaning.proofs.All.{all-get, all-replicate}
-use Rattle.meaning.proofs.Cut.{read-line-at}
-use Rattle.meaning.proofs.Fine.{read-line-fine}
+use Rattle.laws.proofs.Integers.{by-test}
+use Rattle.laws.proofs.All.{all-get, all-replicate}
+use Rattle.laws.proofs.Cut.{read-line-at}
+use Rattle.laws.proofs.Fine.{read-line-fine}
 use Rattle.meaning.specs.Sheet.{Form, FineLine, FineAct}
 use Rattle.meaning.specs.Reading.{Got, got, bad, arg, tree}
-use Rattle.meaning.proofs.Work.{not-stop}
+use Rattle.laws.proofs.Work.{not-stop}
 use Rattle.lines.specs.Answer.{putOf, lineFrom}
 use Rattle.lines.specs.declared.LineForm.{LineForm}
 use Rattle.lines.specs.declared.LineForm.the-variants as line

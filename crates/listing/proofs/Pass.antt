@@ -16,15 +16,15 @@ use Rattle.meaning.specs.Text.{Read, sheet, noSheet, read}
 use Rattle.meaning.specs.Run.{worked, judge, Verdict, verdict}
 use Rattle.meaning.specs.Check.{Bands, at, setIn, layout, shipLimit, check, checkText}
 use Rattle.meaning.specs.Listing.{troubleLine, registerLine, registerLines, listed, passLine, outcomeText, readText, listing}
-use Rattle.meaning.proofs.Work.{judge-worked}
-use Rattle.meaning.proofs.CheckSets.{passed-sound}
-use Rattle.meaning.proofs.Slots.{sets-shown}
+use Rattle.laws.proofs.Work.{judge-worked}
+use Rattle.laws.proofs.CheckSets.{passed-sound}
+use Rattle.laws.proofs.Slots.{sets-shown}
 use Rattle.meaning.specs.Lists.{All}
 use Rattle.meaning.specs.Check.{slotSize, slot, countIn, setsNeed, setsLeftBy}
 use Rattle.meaning.specs.CheckSets.{SoundBands}
-use Rattle.meaning.proofs.Over.{length-over}
-use Rattle.meaning.proofs.Slots.{Short, length-slot, length-shown, sound-short}
-use Rattle.meaning.proofs.Troubles.{zero-passes}
+use Rattle.laws.proofs.Over.{length-over}
+use Rattle.laws.proofs.Slots.{Short, length-slot, length-shown, sound-short}
+use Rattle.laws.proofs.Troubles.{zero-passes}
 use lib.ListN.{drop}
 use lib.Seq.{getD-append-add}
 use mathlib.Core.List.{append-assoc}

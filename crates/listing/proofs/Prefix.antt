@@ -12,8 +12,8 @@ use Rattle.meaning.specs.Refusals.{misshapen}
 use Rattle.meaning.specs.Bytes.{LF}
 use Rattle.meaning.specs.Text.{front, splitLines, lines, narrow, shaped, nothingSeen, noSheet, readLines, read}
 use Rattle.meaning.specs.Listing.{readText, listing}
-use Rattle.meaning.proofs.Integers.{by-test, and-both, if-no}
-use Rattle.meaning.proofs.Cut.{shape-of}
+use Rattle.laws.proofs.Integers.{by-test, and-both, if-no}
+use Rattle.laws.proofs.Cut.{shape-of}
 
 -- how many bytes the lines have, with their LFs
 abbrev bytesOf : List (List ℕ) → ℕ

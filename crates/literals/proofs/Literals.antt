@@ -17,8 +17,8 @@ use borrow.Author.Tests.{eq-eqb, ne-eqb, le-leb, lt-leb, le-ltb, lt-ltb, leb-tru
 use Rattle.meaning.specs.Number.{MIN, MAX, within}
 use Rattle.meaning.specs.Sheet.{beyond}
 use Rattle.meaning.specs.Reading.{Got, got, bad, digits, number, needless, scale, signed, decimals, unsigned, literal, registerWith, register}
-use Rattle.meaning.proofs.Integers.{by-test, le-out, lt-out, up-neg, down-neg, is-within, above-out, below-out, from-within}
-use Rattle.meaning.proofs.Machine.{rd, range-fits}
+use Rattle.laws.proofs.Integers.{by-test, le-out, lt-out, up-neg, down-neg, is-within, above-out, below-out, from-within}
+use Rattle.laws.proofs.Machine.{rd, range-fits}
 use Rattle.literals.specs.Capped.{cap, capped}
 use Rattle.literals.specs.Answer.{kept, literalOf}
 use Rattle.literals.specs.declared.Literal.{Literal}

@@ -12,7 +12,7 @@ use lib.Seq.{take-all}
 use borrow.Author.Tests.{eqb-true}
 use Rattle.meaning.specs.Sheet.{registers}
 use Rattle.meaning.specs.Reading.{Got, got, bad, isDigit, digits, number, needless, scale, signed, decimals, unsigned, literal, registerWith, register}
-use Rattle.meaning.proofs.Integers.{cond-case}
+use Rattle.laws.proofs.Integers.{cond-case}
 
 -- a byte that is not 0 lies before the end
 pub byte-lt : (s : List ℕ) (i : ℕ) → 0 < getD s i 0 → i < length s

@@ -3,21 +3,24 @@ use mathlib.Core.Path.{refl}
 use Rattle.meaning.specs.Lists.{over}
 use Rattle.meaning.specs.Number.{within, window, wrap, negative, sum, quotient, point1, point2}
 use Rattle.meaning.specs.Interval.{each, without, negPair, pieces, spread, leastCorner, greatestCorner, divPiece, divPart, divPair}
-use Rattle.meaning.specs.NumberIntervals.{contains, insert, rebuild, union, meetPair, intersect, asBools, ofBools, set1, set2, flag1, flag2, flat, intervals, normal}
+use Rattle.meaning.specs.NumberIntervals.{contains, insert, rebuild, union, meetPair, intersect, asBools, ofBools, someOf, ltBools, set1, set2, flag1, flag2, flat, intervals, normal}
 use Rattle.meaning.specs.SetCalls.{factor1, factor2, refusal, refusal2, callReturns, callOut, callWork}
 use Rattle.meaning.specs.Outcome.{bind, work}
 use Rattle.meaning.specs.Sheet.{farForm, farAct, farLine, crossedAct, crossedLine}
 use Rattle.meaning.specs.Reading.{closed, begins, digits, number, scale, decimals, unsigned, literal, registerWith, head, start, arg, form, bounds, value, actOf, lineOf, wholeLine, judged, readLine}
 use Rattle.meaning.specs.Text.{splitLines, lineAt, cut, admit, readOne, readLines, read}
 use Rattle.meaning.specs.Run.{valueOf, runAct, runLine, startNumbers, run, runText, runCall, runLent}
-use Rattle.meaning.specs.Check.{inside, settle, setOf, checkAct, checkLine, check, checkText, checkCall, slot}
+use Rattle.meaning.specs.Check.{inside, settle, setOf, checkAct, checkLine, check, checkText, checkCall, slot, layout}
 use Rattle.meaning.specs.SheetReadings.{SheetReadings}
 
 pub sheet-readings : SheetReadings
-unfolding over within window wrap negative sum quotient point1 point2 each without negPair pieces spread leastCorner greatestCorner divPiece divPart divPair contains insert rebuild union meetPair intersect asBools ofBools set1 set2 flag1 flag2 flat intervals normal factor1 factor2 refusal refusal2 callReturns callOut callWork bind work farForm farAct farLine crossedAct crossedLine closed begins digits number scale decimals unsigned literal registerWith head start arg form bounds value actOf lineOf wholeLine judged readLine splitLines lineAt cut admit readOne readLines read valueOf runAct runLine startNumbers run runText runCall runLent inside settle setOf checkAct checkLine check checkText checkCall slot
+unfolding over within window wrap negative sum quotient point1 point2 each without negPair pieces spread leastCorner greatestCorner divPiece divPart divPair contains insert rebuild union meetPair intersect asBools ofBools someOf ltBools set1 set2 flag1 flag2 flat intervals normal factor1 factor2 refusal refusal2 callReturns callOut callWork bind work farForm farAct farLine crossedAct crossedLine closed begins digits number scale decimals unsigned literal registerWith head start arg form bounds value actOf lineOf wholeLine judged readLine splitLines lineAt cut admit readOne readLines read valueOf runAct runLine startNumbers run runText runCall runLent inside settle setOf checkAct checkLine check checkText checkCall slot layout
 sheet-readings = record {
   many-before-odd = refl;
   odd = refl;
+  sixteen-fine = refl;
+  seventeen = refl;
+  unsorted = refl;
   touching-refused = refl;
   empty-fine = refl;
   left-first = refl;
@@ -40,22 +43,31 @@ sheet-readings = record {
   no-last-feed = refl;
   long-line = refl;
   line-of-120 = refl;
+  long-by-return = refl;
   lines-257 = refl;
   lines-256 = refl;
   line-by-line = refl;
   grammar-first = refl;
   grammar-first-behind = refl;
   far-before-crossed = refl;
-  crossed-before-misplaced = refl;
+  crossed-before-8 = refl;
   in-late = refl;
   in-twice = refl;
+  late-before-grammar = refl;
   needless-zero = refl;
+  minus-needless-zero = refl;
+  plus = refl;
+  no-whole-part = refl;
   bare-point = refl;
   four-decimals = refl;
   register-16 = refl;
   register-01 = refl;
+  register-of-forty = refl;
+  literal-of-forty = refl;
   bracketed-literal = refl;
   trailing-space = refl;
+  leading-space = refl;
+  tab = refl;
   double-space = refl;
   carriage-return = refl;
   least-literal = refl;
@@ -64,6 +76,11 @@ sheet-readings = record {
   minus-zero = refl;
   eight-brackets = refl;
   nine-brackets = refl;
+  eight-with-literal = refl;
+  eight-on-the-right = refl;
+  nine-on-the-right = refl;
+  words-of-one = refl;
+  words-of-two = refl;
   operators = refl;
   line-zero = refl;
   line-one = refl;
@@ -72,6 +89,10 @@ sheet-readings = record {
   cut-one = refl;
   run-stops = refl;
   run-left = refl;
+  run-hold = refl;
+  run-empty = refl;
+  run-fifteen = refl;
+  check-enough = refl;
   run-short = refl;
   check-short = refl;
   no-short-cut = refl;
@@ -79,7 +100,15 @@ sheet-readings = record {
   check-hold = refl;
   put-old-state = refl;
   untouched-slot = refl;
-  crowded-before-zero = refl;
+  slot-ends = refl;
+  slots-in-turn = refl;
+  at-the-limit = refl;
+  over-the-limit = refl;
+  sixteen-settled = refl;
+  seventeen-crowded = refl;
+  zero-first = refl;
+  crowd-first = refl;
+  9-before-zero = refl;
   refused-lent = refl;
   refused-sets = refl;
   refused-work = refl;

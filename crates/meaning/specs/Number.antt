@@ -6,6 +6,10 @@ use mathlib.Core.Bool.{Bool, true, false, not, cond, _&&_, _||_}
 use mathlib.Core.Option.{Option, none, some}
 use Prim.Native.Nat.{ℕ, _+_, _-_, _/_, _^_}
 
+-- an integer is `pos n`, or `negsuc n`, which is −n − 1; this is −n
+abbrev pub minus : ℕ → ℤ
+minus n = negℤ (pos n)
+
 abbrev pub MIN : ℤ
 MIN = negsuc (2 ^ 63 - 1)
 

@@ -2,7 +2,6 @@
 use mathlib.Core.Path.{_≡_}
 use mathlib.Core.List.{List, _++_}
 use Prim.Native.Nat.{ℕ}
-use Rattle.meaning.specs.Refusals.{crowded}
 use Rattle.meaning.specs.Bytes.{bytes}
 use Rattle.meaning.specs.Listing.{troubleLine, listing}
 
@@ -52,8 +51,16 @@ held-sheet = bytes "(hold 3 0 0)\n"
 abbrev pub held-listing : List ℕ
 held-listing = bytes "pass 1\n"
 
-abbrev pub crowded-line : List ℕ
-crowded-line = bytes "refused 9 2\n"
+abbrev pub ordered-sheet : List ℕ
+ordered-sheet =
+    bytes "(in 3 0 1)\n"
+    ++ bytes "(put 2 (lt (reg 3) 0.5))\n"
+
+abbrev pub ordered-listing : List ℕ
+ordered-listing =
+    bytes "pass 2\n"
+    ++ bytes "r2 0..0 1000..1000\n"
+    ++ bytes "r3 0..1000\n"
 
 pub record Samples : Type 0 where
   -- 01's own example
@@ -68,5 +75,7 @@ pub record Samples : Type 0 where
   pub nothing : listing nothing-sheet ≡ nothing-listing
   -- a register of a hold alone is not listed
   pub held : listing held-sheet ≡ held-listing
-  -- 9 on line 2 is printed as a refusal
-  pub crowd : troubleLine crowded 2 ≡ crowded-line
+  -- registers ascending, one space before each interval, a single value by both ends
+  pub ordered : listing ordered-sheet ≡ ordered-listing
+  -- the wording of a 9
+  pub crowded : troubleLine 9 2 ≡ bytes "refused 9 2\n"

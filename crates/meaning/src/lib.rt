@@ -1,1 +1,2 @@
-// Document 01 as definitions (specs/) and the theorems about them (proofs/). There is no code here: every other crate is proved equal to it.
+// Document 01 as definitions, and the statements of the theorems about them (specs/), with the values that pin how the document is read (proofs/). There is no code here:
+// every other crate is proved equal to it.

@@ -7,9 +7,9 @@ use mir.Syntax.{w64}
 use mir.Val.{SFits}
 use mir.Facts.{toZ-ofZ}
 use Rattle.meaning.specs.Number.{MIN, wrap, negative, absolute, sum, difference}
-use Rattle.meaning.proofs.Integers.{zarith, up-neg, down-neg, add-parts, sub-parts, suc-parts, pred-parts, up-quot-neg, down-quot-neg, up-rem, down-rem}
-use Rattle.meaning.proofs.Machine.{rd, num, ok, fits-out}
-use Rattle.meaning.proofs.Wrapping.{wrap-id}
+use Rattle.laws.proofs.Integers.{zarith, up-neg, down-neg, add-parts, sub-parts, suc-parts, pred-parts, up-quot-neg, down-quot-neg, up-rem, down-rem}
+use Rattle.laws.proofs.Machine.{rd, num, ok, fits-out}
+use Rattle.laws.proofs.Wrapping.{wrap-id}
 
 pub abs-neg : {x : ℤ} → x <ℤ pos 0 → negative x ≡ absolute x
 unfolding negative absolute

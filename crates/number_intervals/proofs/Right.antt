@@ -11,9 +11,9 @@ use Rattle.meaning.specs.NumberIntervals.{Set, _∈_, union, intersect, set1, s
 use Rattle.meaning.specs.SetCalls.{Returned, factor1, factor2, need1, need2, refusal, refusal2, callReturns}
 use Rattle.meaning.specs.Demand2Calls.{Call1, Call2, CallJust}
 use Rattle.meaning.specs.Contracts.{Works1, Works2, Gives1, Gives2, Unites, Meets}
-use Rattle.meaning.proofs.Members.{normal-proper}
-use Rattle.meaning.proofs.Flat.{even-flat, normal-even, flat-in-range}
-use Rattle.meaning.proofs.Demand2Calls.{demand2-calls}
+use Rattle.laws.proofs.Members.{normal-proper}
+use Rattle.laws.proofs.Flat.{even-flat, normal-even, flat-in-range}
+use Rattle.laws.proofs.Demand2Calls.{demand2-calls}
 use Rattle.sets.specs.Sets.{Argument}
 use Rattle.replies.specs.Returning.{returned, replyFor, Cased, Ended, Handed}
 use Rattle.replies.specs.declared.Reply.{Reply}

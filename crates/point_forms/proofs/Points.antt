@@ -16,9 +16,9 @@ use Rattle.meaning.specs.Number.{point1, point2}
 use Rattle.meaning.specs.Sheet.{Form, lit, reg, form1, form2, FineForm}
 use Rattle.meaning.specs.Reading.{got, bad, mapGot, literal, arg, tree}
 use Rattle.meaning.specs.Run.{valueOf}
-use Rattle.meaning.proofs.Integers.{between-within}
-use Rattle.meaning.proofs.Machine.{rd, fit}
-use Rattle.meaning.proofs.Fusion.{fuse-arg}
+use Rattle.laws.proofs.Integers.{between-within}
+use Rattle.laws.proofs.Machine.{rd, fit}
+use Rattle.laws.proofs.Fusion.{fuse-arg}
 use Rattle.literals.specs.Answer.{kept, literalOf}
 use Rattle.forms.specs.Answer.{op1Of, op2Of}
 use Rattle.forms.specs.declared.Op1.{Op1 as Unary}

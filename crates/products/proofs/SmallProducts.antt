@@ -8,11 +8,11 @@ use mir.Syntax.{w64}
 use mir.Val.{SFits}
 use Rattle.meaning.specs.Number.{Between, eqZ, window, wrap, thousandth}
 use Rattle.meaning.specs.Interval.{one, span, far, pieces, leastCorner, greatestCorner, mulPair}
-use Rattle.meaning.proofs.Integers.{zarith, and-both, up-neg, down-neg, sub-parts}
-use Rattle.meaning.proofs.Machine.{num, fits-out}
-use Rattle.meaning.proofs.Wrapping.{wrap-parts, wrap-id}
-use Rattle.meaning.proofs.Spread.{spread-one}
-use Rattle.meaning.proofs.Products.{least-above, greatest-below, corners-ordered}
+use Rattle.laws.proofs.Integers.{zarith, and-both, up-neg, down-neg, sub-parts}
+use Rattle.laws.proofs.Machine.{num, fits-out}
+use Rattle.laws.proofs.Wrapping.{wrap-parts, wrap-id}
+use Rattle.laws.proofs.Spread.{spread-one}
+use Rattle.laws.proofs.Products.{least-above, greatest-below, corners-ordered}
 use Rattle.words.proofs.Halves.{mul-mono}
 use Rattle.products.specs.Narrow.{Narrow}
 

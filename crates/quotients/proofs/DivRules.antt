@@ -13,13 +13,13 @@ use native.Mathlib.Omega.{arith}
 use Rattle.meaning.specs.Number.{MIN, MAX, ONE, within, smaller, larger}
 use Rattle.meaning.specs.Interval.{Interval, span, only, Proper, each, without, Spread, pieces, spread, unscaled, leastCorner, greatestCorner, divPlain, divPiece, divSpread, divPart, divPair}
 use Rattle.meaning.specs.NumberIntervals.{flat}
-use Rattle.meaning.proofs.Wrapping.{wrap-id}
-use Rattle.meaning.proofs.Machine.{range-fits}
-use Rattle.meaning.proofs.Integers.{zarith, ≤ℤ-trans, and-both, from-within, above-out, below-out, if-yes, if-no}
-use Rattle.meaning.proofs.Flat.{length-flat}
-use Rattle.meaning.proofs.Members.{AllProper}
-use Rattle.meaning.proofs.Parts.{without-none, low-part, high-part, one-sign, ends-at-minus-one}
-use Rattle.meaning.proofs.Quotients.{Plain, start-left, end-left, start-right, end-right, plain-fits, plain-both, plain-left, plain-right, thousands-proper, div-few}
+use Rattle.laws.proofs.Wrapping.{wrap-id}
+use Rattle.laws.proofs.Machine.{range-fits}
+use Rattle.laws.proofs.Integers.{zarith, ≤ℤ-trans, and-both, from-within, above-out, below-out, if-yes, if-no}
+use Rattle.laws.proofs.Flat.{length-flat}
+use Rattle.laws.proofs.Members.{AllProper}
+use Rattle.laws.proofs.Parts.{without-none, low-part, high-part, one-sign, ends-at-minus-one}
+use Rattle.laws.proofs.Quotients.{Plain, start-left, end-left, start-right, end-right, plain-fits, plain-both, plain-left, plain-right, thousands-proper, div-few}
 use Rattle.wide.specs.Range.{rangeOf}
 use Rattle.wide.specs.declared.spread.Range.{Range}
 use Rattle.wide.specs.declared.spread.Range.the-variants.{Whole, One, Two}

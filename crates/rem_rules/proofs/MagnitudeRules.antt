@@ -13,11 +13,11 @@ use mir.Val.{SFits}
 use Rattle.meaning.specs.Number.{MIN, within}
 use Rattle.meaning.specs.Interval.{span, only, against, leastMagnitude, greatestMagnitude, signedSpan, remMagnitudes, ruleF}
 use Rattle.meaning.specs.NumberIntervals.{flat}
-use Rattle.meaning.proofs.Integers.{zarith, cond-case, one-part, abs-parts, sub-parts, up-neg, down-neg}
-use Rattle.meaning.proofs.Machine.{num}
-use Rattle.meaning.proofs.Members.{between}
-use Rattle.meaning.proofs.Parts.{one-sign}
-use Rattle.meaning.proofs.RemainderRules.{magnitudes, magnitudes-case}
+use Rattle.laws.proofs.Integers.{zarith, cond-case, one-part, abs-parts, sub-parts, up-neg, down-neg}
+use Rattle.laws.proofs.Machine.{num}
+use Rattle.laws.proofs.Members.{between}
+use Rattle.laws.proofs.Parts.{one-sign}
+use Rattle.laws.proofs.RemainderRules.{magnitudes, magnitudes-case}
 use Rattle.slices.proofs.Lent.{first-room}
 
 -- ---- L against {MIN}

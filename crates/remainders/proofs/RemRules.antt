@@ -9,9 +9,9 @@ use native.Mathlib.Omega.{arith}
 use Rattle.meaning.specs.Number.{MIN, within}
 use Rattle.meaning.specs.Interval.{only, Proper, PairOp, cutLeft, cutRight, ruleA, ruleC, ruleD, ruleE, ruleF, remStep, remWith, remPair}
 use Rattle.meaning.specs.NumberIntervals.{flat}
-use Rattle.meaning.proofs.Flat.{length-flat}
-use Rattle.meaning.proofs.RemainderRules.{step-a, step-b, step-c, step-d, step-e, step-f}
-use Rattle.meaning.proofs.RemainderCounts.{rem-few}
+use Rattle.laws.proofs.Flat.{length-flat}
+use Rattle.laws.proofs.RemainderRules.{step-a, step-b, step-c, step-d, step-e, step-f}
+use Rattle.laws.proofs.RemainderCounts.{rem-few}
 
 -- ---- the number that falls
 

@@ -14,8 +14,8 @@ use Rattle.meaning.specs.Number.{within}
 use Rattle.meaning.specs.Sheet.{registers, put, hold, Line, input, act, FineLine}
 use Rattle.meaning.specs.Text.{read}
 use Rattle.meaning.specs.Run.{valueOf, runAct, runLine, startNumbers, run, Judged, refused, worked, judge, runText, verdict, runCall, leftBy, runLent}
-use Rattle.meaning.proofs.Work.{ok-same, bind-ok, guard-ok}
-use Rattle.meaning.proofs.Fine.{read-line-fine}
+use Rattle.laws.proofs.Work.{ok-same, bind-ok, guard-ok}
+use Rattle.laws.proofs.Fine.{read-line-fine}
 use Rattle.sheet.specs.Answer.{judgementFor}
 use Rattle.sheet.specs.Judging.{IsSheet}
 use Rattle.sheet.specs.declared.Judgement.{Judgement}

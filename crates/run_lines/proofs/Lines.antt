@@ -13,9 +13,9 @@ use Rattle.meaning.specs.Number.{within}
 use Rattle.meaning.specs.Sheet.{registers, Form, put, hold, Line, input, act, FineAct, FineLine}
 use Rattle.meaning.specs.Reading.{got, arg, tree, readLine}
 use Rattle.meaning.specs.Run.{runAct, runLine}
-use Rattle.meaning.proofs.Integers.{by-test}
-use Rattle.meaning.proofs.Machine.{rd, leZ-is}
-use Rattle.meaning.proofs.Fine.{read-line-fine}
+use Rattle.laws.proofs.Integers.{by-test}
+use Rattle.laws.proofs.Machine.{rd, leZ-is}
+use Rattle.laws.proofs.Fine.{read-line-fine}
 use Rattle.lines.specs.Answer.{lineFrom}
 use Rattle.lines.specs.declared.LineForm.{LineForm}
 use Rattle.lines.specs.declared.LineForm.the-variants as line

@@ -14,8 +14,8 @@ use Rattle.meaning.specs.Refusals.{tooShort, noRoom}
 use Rattle.meaning.specs.Number.{Op1}
 use Rattle.meaning.specs.NumberIntervals.{Set, union, set1, flag1, flat, intervals, normal}
 use Rattle.meaning.specs.SetCalls.{factor1, need1, need2, refusal, refusal2, written, refused, callReturns, callOut, callWork}
-use Rattle.meaning.proofs.Integers.{cond-case}
-use Rattle.meaning.proofs.Over.{over-same, take-over}
+use Rattle.laws.proofs.Integers.{cond-case}
+use Rattle.laws.proofs.Over.{over-same, take-over}
 use Rattle.slices.specs.Wrote.{Wrote}
 use Rattle.slices.proofs.Lent.{same-long}
 use Rattle.sets.specs.Sets.{United}

@@ -15,9 +15,9 @@ use Rattle.meaning.specs.Interval.{only}
 use Rattle.meaning.specs.NumberIntervals.{flat, intervals}
 use Rattle.meaning.specs.Sheet.{registers}
 use Rattle.meaning.specs.Check.{inside, slot, layout, setsNeed, startSets}
-use Rattle.meaning.proofs.All.{all-replicate}
-use Rattle.meaning.proofs.Over.{mid-tail, tail-whole}
-use Rattle.meaning.proofs.Slots.{Short, length-layout}
+use Rattle.laws.proofs.All.{all-replicate}
+use Rattle.laws.proofs.Over.{mid-tail, tail-whole}
+use Rattle.laws.proofs.Slots.{Short, length-layout}
 use Rattle.sorting.proofs.Steps.{end-at, drop-two}
 use Rattle.set_lines.specs.Worked.{given}
 use Rattle.set_values.specs.declared.SetV.{SetV}

@@ -15,12 +15,12 @@ use Rattle.meaning.specs.Sheet.{registers, Form, lit, reg, form1, form2, put, h
 use Rattle.meaning.specs.Reading.{Got, got, bad, arg, tree, readLine}
 use Rattle.meaning.specs.Check.{Bands, at, inside, settle, give, setOf, checkAct, checkLine, slot, layout, setIn, shipLimit}
 use Rattle.meaning.specs.CheckSets.{SoundBands}
-use Rattle.meaning.proofs.Flat.{intervals-flat}
-use Rattle.meaning.proofs.Fine.{read-line-fine}
-use Rattle.meaning.proofs.Slots.{sound-short}
-use Rattle.meaning.proofs.Demand2.{demand2}
-use Rattle.meaning.proofs.CheckSets.{only-sound}
-use Rattle.meaning.proofs.Fusion.{Related, rel-arg}
+use Rattle.laws.proofs.Flat.{intervals-flat}
+use Rattle.laws.proofs.Fine.{read-line-fine}
+use Rattle.laws.proofs.Slots.{sound-short}
+use Rattle.laws.proofs.Demand2.{demand2}
+use Rattle.laws.proofs.CheckSets.{only-sound}
+use Rattle.laws.proofs.Fusion.{Related, rel-arg}
 use Rattle.literals.specs.Answer.{kept}
 use Rattle.lines.specs.Answer.{lineFrom}
 use Rattle.lines.specs.declared.LineForm.the-variants as line

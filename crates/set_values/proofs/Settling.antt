@@ -14,8 +14,8 @@ use Rattle.meaning.specs.Outcome.{Res, stop, bind}
 use Rattle.meaning.specs.Number.{Op1, Op2}
 use Rattle.meaning.specs.NumberIntervals.{Set, set1, set2, flag1, flag2, flat, intervals}
 use Rattle.meaning.specs.Check.{settle, shipLimit}
-use Rattle.meaning.proofs.Flat.{intervals-flat, even-flat, length-flat, length-intervals}
-use Rattle.meaning.proofs.Over.{take-over}
+use Rattle.laws.proofs.Flat.{intervals-flat, even-flat, length-flat, length-intervals}
+use Rattle.laws.proofs.Over.{take-over}
 use Rattle.slices.specs.Wrote.{Wrote}
 use Rattle.cores.specs.Cored.{Cored}
 use Rattle.cores.specs.declared.Core.{Core}

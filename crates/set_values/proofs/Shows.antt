@@ -17,10 +17,10 @@ use Rattle.meaning.specs.Sheet.{registers}
 use Rattle.meaning.specs.Reading.{Got, got, arg}
 use Rattle.meaning.specs.Check.{at, slotSize, slot, layout, setIn, setsNeed, shipLimit}
 use Rattle.meaning.specs.CheckSets.{SoundSet}
-use Rattle.meaning.proofs.Integers.{zarith}
-use Rattle.meaning.proofs.Over.{mid-tail}
-use Rattle.meaning.proofs.Slots.{Short, length-slot, length-shown, sound-short, layout-back}
-use Rattle.meaning.proofs.Fusion.{Related, rel-arg}
+use Rattle.laws.proofs.Integers.{zarith}
+use Rattle.laws.proofs.Over.{mid-tail}
+use Rattle.laws.proofs.Slots.{Short, length-slot, length-shown, sound-short, layout-back}
+use Rattle.laws.proofs.Fusion.{Related, rel-arg}
 use Rattle.set_values.specs.Value.{padded, valueOf, Sound, Shown, values}
 use Rattle.set_values.specs.declared.SetV.{SetV}
 use Rattle.set_values.proofs.Values.{answer1-sound, answer2-sound, literal-sound}

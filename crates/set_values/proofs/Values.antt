@@ -17,11 +17,11 @@ use Rattle.meaning.specs.NumberIntervals.{Set, set1, set2, flag1, flag2, flat, 
 use Rattle.meaning.specs.Sheet.{beyond}
 use Rattle.meaning.specs.Check.{settle, shipLimit}
 use Rattle.meaning.specs.CheckSets.{SoundSet}
-use Rattle.meaning.proofs.Integers.{zarith, by-test, from-within, between-within}
-use Rattle.meaning.proofs.Flat.{intervals-flat, flat-normal, length-flat}
-use Rattle.meaning.proofs.Members.{between}
-use Rattle.meaning.proofs.Demand2.{demand2}
-use Rattle.meaning.proofs.CheckSets.{only-sound, form1-sound, form2-sound}
+use Rattle.laws.proofs.Integers.{zarith, by-test, from-within, between-within}
+use Rattle.laws.proofs.Flat.{intervals-flat, flat-normal, length-flat}
+use Rattle.laws.proofs.Members.{between}
+use Rattle.laws.proofs.Demand2.{demand2}
+use Rattle.laws.proofs.CheckSets.{only-sound, form1-sound, form2-sound}
 use Rattle.literals.specs.Answer.{kept}
 use Rattle.sets.specs.Sets.{Argument}
 use Rattle.set_values.specs.Value.{padded, valueOf, resultOf, SoundResult, Sound, answer1, answer2}

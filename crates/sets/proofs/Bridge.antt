@@ -11,10 +11,10 @@ use lib.IntN.{ℤ}
 use lib.Signed.{leZ}
 use Rattle.meaning.specs.Number.{InRange}
 use Rattle.meaning.specs.NumberIntervals.{Set, _∈_, here, there, Apart, Normal, rebuild, union, flat, intervals, startsAfter, normal}
-use Rattle.meaning.proofs.Integers.{zarith, never, and-both, le-in, le-out, lt-out, suc-parts}
-use Rattle.meaning.proofs.Members.{AllProper, not-in-none, between, normal-proper, member-range}
-use Rattle.meaning.proofs.Join.{rebuild-unique, normal-unique}
-use Rattle.meaning.proofs.Compare.{union-normal, union-holds, union-only}
+use Rattle.laws.proofs.Integers.{zarith, never, and-both, le-in, le-out, lt-out, suc-parts}
+use Rattle.laws.proofs.Members.{AllProper, not-in-none, between, normal-proper, member-range}
+use Rattle.laws.proofs.Join.{rebuild-unique, normal-unique}
+use Rattle.laws.proofs.Compare.{union-normal, union-holds, union-only}
 use Rattle.sorting.specs.Order.{Le, Valid, valid, In, Within, Below, Sorted, merge, joinSorted}
 use Rattle.sorting.proofs.Ends.{After, NormalEnds, apart-yes, is-valid}
 use Rattle.sorting.proofs.Arrange.{join-normal, join-in, in-join, merge-sorted, merge-in, in-merge, sorted-valid}

@@ -12,15 +12,15 @@ use lib.Signed.{leZ}
 use Rattle.meaning.specs.Lists.{over}
 use Rattle.meaning.specs.Number.{larger}
 use Rattle.meaning.specs.NumberIntervals.{flat, intervals, intersect}
-use Rattle.meaning.proofs.Integers.{leZ-false, leZ-true}
-use Rattle.meaning.proofs.Machine.{rd}
+use Rattle.laws.proofs.Integers.{leZ-false, leZ-true}
+use Rattle.laws.proofs.Machine.{rd}
 use Rattle.sorting.specs.Order.{In, Le, Lt, Valid, putPair, valid}
 use Rattle.sorting.proofs.Ends.{Gap, valid-yes, valid-pair, After, NormalEnds, larger-parts}
 use Rattle.sorting.proofs.Steps.{end-at, drop-two, put-pair-length, put-pair-take, put-pair-drop, drop-later}
 use Rattle.slices.specs.Wrote.{Wrote}
 use Rattle.sets.specs.Sets.{SetEnds}
 use Rattle.sets.proofs.Bridge.{in-ends, ends-in, normal-ends, ends-unique}
-use Rattle.meaning.proofs.Compare.{intersect-normal, intersect-holds, intersect-only}
+use Rattle.laws.proofs.Compare.{intersect-normal, intersect-holds, intersect-only}
 
 -- the interval that ends first is left behind
 unfoldable pub cross : List ℤ → List ℤ → List ℤ

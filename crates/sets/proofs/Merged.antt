@@ -10,7 +10,7 @@ use lib.Seq.{length-take-le, take-at, drop-at, take-all}
 use lib.IntN.{ℤ}
 use Rattle.meaning.specs.Lists.{over}
 use Rattle.meaning.specs.NumberIntervals.{flat, intervals, union}
-use Rattle.meaning.proofs.Over.{tail-drop, tail-length, tail-take, tail-whole}
+use Rattle.laws.proofs.Over.{tail-drop, tail-length, tail-take, tail-whole}
 use Rattle.sorting.specs.Order.{Swept, Valid, joinSorted, merge, valid}
 use Rattle.sorting.proofs.Ends.{valid-yes}
 use Rattle.sets.specs.Sets.{SetEnds, United}

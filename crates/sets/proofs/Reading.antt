@@ -13,7 +13,7 @@ use Rattle.meaning.specs.Number.{InRange, within}
 use Rattle.meaning.specs.NumberIntervals.{apart, normal, intervals, startsAfter, contains}
 use lib.Dec.{leb}
 use borrow.Author.Tests.{leb-true, leb-false}
-use Rattle.meaning.proofs.Integers.{by-test, and-left}
+use Rattle.laws.proofs.Integers.{by-test, and-left}
 use Rattle.sorting.proofs.Steps.{end-at, drop-one, drop-two, drop-last}
 
 regroup : (a b c : Bool) → (a && (b && c)) ≡ ((a && b) && c)

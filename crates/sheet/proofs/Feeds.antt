@@ -12,8 +12,8 @@ use lib.Seq.{drop-cons, drop-drop, getD-drop, length-take-le}
 use borrow.Author.Tests.{eq-eqb, ne-eqb, le-leb, lt-leb, leb-true, leb-false}
 use Rattle.meaning.specs.Bytes.{LF}
 use Rattle.meaning.specs.Text.{Split, front, splitLines, lines, lineAt, cut, narrow, empty, shaped}
-use Rattle.meaning.proofs.Integers.{by-test, cond-case}
-use Rattle.meaning.proofs.Cut.{cut-past, line-at}
+use Rattle.laws.proofs.Integers.{by-test, cond-case}
+use Rattle.laws.proofs.Cut.{cut-past, line-at}
 use Rattle.sheet.specs.Feed.{feed}
 
 module _ (s : List ℕ) (i : ℕ) where

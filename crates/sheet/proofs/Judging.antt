@@ -15,9 +15,9 @@ use Rattle.meaning.specs.Outcome.{ok, stop, bind}
 use Rattle.meaning.specs.Sheet.{registers, Line, put, hold, input, act, FineLine}
 use Rattle.meaning.specs.Reading.{readLine}
 use Rattle.meaning.specs.Text.{splitLines, lines, Seen, nothingSeen, among, admit, Read, sheet, noSheet, prepend, readOne, readLines, read, shaped}
-use Rattle.meaning.proofs.Integers.{by-test}
-use Rattle.meaning.proofs.Cut.{shape-of}
-use Rattle.meaning.proofs.Fine.{read-line-fine}
+use Rattle.laws.proofs.Integers.{by-test}
+use Rattle.laws.proofs.Cut.{shape-of}
+use Rattle.laws.proofs.Fine.{read-line-fine}
 use Rattle.lines.specs.Answer.{lineFrom}
 use Rattle.lines.specs.declared.LineForm.{LineForm}
 use Rattle.lines.specs.declared.LineForm.the-variants as line

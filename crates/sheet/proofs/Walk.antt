@@ -9,7 +9,7 @@ use Rattle.meaning.specs.Outcome.{ok}
 use Rattle.meaning.specs.Sheet.{Line}
 use Rattle.meaning.specs.Reading.{readLine}
 use Rattle.meaning.specs.Text.{splitLines, lines, Seen, nothingSeen, sheet, readOne, readLines, read}
-use Rattle.meaning.proofs.Cut.{then-sheet, one-read, reads}
+use Rattle.laws.proofs.Cut.{then-sheet, one-read, reads}
 use Rattle.sheet.specs.Feed.{feed}
 use Rattle.sheet.proofs.Feeds.{next-lines, next-rest, end-lt}
 

@@ -12,9 +12,9 @@ use Rattle.meaning.specs.Run.{Judged, refused, worked}
 use Rattle.meaning.specs.Check.{Bands, shipLimit, checkCall, setIn}
 use Rattle.meaning.specs.Demand3.{SafeAt}
 use Rattle.meaning.specs.Demand3Calls.{CallsSafeAt}
-use Rattle.meaning.proofs.Integers.{never}
-use Rattle.meaning.proofs.Demand3.{demand3 as safety}
-use Rattle.meaning.proofs.Demand3Calls.{demand3-calls}
+use Rattle.laws.proofs.Integers.{never}
+use Rattle.laws.proofs.Demand3.{demand3 as safety}
+use Rattle.laws.proofs.Demand3Calls.{demand3-calls}
 use Rattle.run.specs.Answer.{answerFor as runAnswerFor}
 use Rattle.run.proofs.Steps.{call-text}
 use Rattle.sheet_check.specs.Answer.{answerFor}

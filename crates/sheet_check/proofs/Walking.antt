@@ -19,13 +19,13 @@ use Rattle.meaning.specs.Text.{sheet, read}
 use Rattle.meaning.specs.Run.{verdict, Judged, refused, worked, judge}
 use Rattle.meaning.specs.Check.{Bands, checkLine, startSets, check, checkText, layout, setsNeed, workNeed, shipLimit, checkCall, setsLeftBy, workLeftBy, checkSets, checkWork}
 use Rattle.meaning.specs.CheckSets.{SoundBands}
-use Rattle.meaning.proofs.Integers.{never, by-test}
-use Rattle.meaning.proofs.Work.{work-step}
-use Rattle.meaning.proofs.Fine.{read-line-fine}
-use Rattle.meaning.proofs.Over.{over-same}
-use Rattle.meaning.proofs.Slots.{length-shown}
-use Rattle.meaning.proofs.Demand2.{demand2}
-use Rattle.meaning.proofs.CheckSets.{Kept, start-kept, line-kept, kept-sound}
+use Rattle.laws.proofs.Integers.{never, by-test}
+use Rattle.laws.proofs.Work.{work-step}
+use Rattle.laws.proofs.Fine.{read-line-fine}
+use Rattle.laws.proofs.Over.{over-same}
+use Rattle.laws.proofs.Slots.{length-shown}
+use Rattle.laws.proofs.Demand2.{demand2}
+use Rattle.laws.proofs.CheckSets.{Kept, start-kept, line-kept, kept-sound}
 use Rattle.sheet.specs.Feed.{feed}
 use Rattle.sheet.specs.Answer.{judgementFor}
 use Rattle.sheet.specs.Judging.{IsSheet}

@@ -9,8 +9,8 @@ use lib.IntN.{ℤ}
 use Rattle.meaning.specs.Lists.{over}
 use Rattle.meaning.specs.Interval.{Interval}
 use Rattle.meaning.specs.NumberIntervals.{flat}
-use Rattle.meaning.proofs.Over.{over-nil, length-over, tail-next, mid-tail}
-use Rattle.meaning.proofs.Flat.{flat-append}
+use Rattle.laws.proofs.Over.{over-nil, length-over, tail-next, mid-tail}
+use Rattle.laws.proofs.Flat.{flat-append}
 use Rattle.slices.specs.Wrote.{Wrote}
 
 pub length-flat-append : (x y : List Interval) → length (flat (x ++ y)) ≡ length (flat x) + length (flat y)

@@ -8,7 +8,7 @@ use lib.Signed.{leZ}
 use borrow.Author.Tests.{eqb-true, eqb-false, leb-true, leb-false}
 use Rattle.meaning.specs.Number.{eqZ}
 use Rattle.meaning.specs.Interval.{far}
-use Rattle.meaning.proofs.Integers.{zarith, by-test}
+use Rattle.laws.proofs.Integers.{zarith, by-test}
 use Rattle.wide.specs.Exact.{held}
 use Rattle.wide.proofs.Words.{Is, is-minus, is-held}
 

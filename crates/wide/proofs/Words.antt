@@ -9,9 +9,9 @@ use mir.Syntax.{w64}
 use mir.Val.{SFits}
 use mir.Facts.{toZ-ofZ}
 use Rattle.meaning.specs.Number.{window, wrap}
-use Rattle.meaning.proofs.Integers.{up, down, le-in, eq-in, eq-out, up-neg, down-neg, subℕ-parts, add-parts, sub-parts, mul-parts}
-use Rattle.meaning.proofs.Machine.{rd, ok}
-use Rattle.meaning.proofs.Wrapping.{wrap-parts}
+use Rattle.laws.proofs.Integers.{up, down, le-in, eq-in, eq-out, up-neg, down-neg, subℕ-parts, add-parts, sub-parts, mul-parts}
+use Rattle.laws.proofs.Machine.{rd, ok}
+use Rattle.laws.proofs.Wrapping.{wrap-parts}
 use Rattle.wide.specs.Exact.{held}
 
 pub record Is (z : ℤ) (a b : ℕ) : Type 0 where

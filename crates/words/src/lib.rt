@@ -4,7 +4,7 @@ ghost use Prim.Native.Nat.{_*_, _%_, _^_};
 ghost use lib.IntN.{pos, _-ℤ_, _*ℤ_};
 ghost use lib.Signed.{_≤ℤ_};
 ghost use Rattle.meaning.specs.Number as point;
-ghost use Rattle.meaning.proofs.Wrapping.{low};
+ghost use Rattle.laws.proofs.Wrapping.{low};
 
 pub const MIN: i64 = -9223372036854775808;
 

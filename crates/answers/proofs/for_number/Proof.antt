@@ -3,7 +3,7 @@ use borrow.Author.Needs.{needs}
 use mathlib.Core.Path.{_≡_, _∙_, ap, sym}
 use mathlib.Core.Option.{some}
 use lib.IntN.{ℤ}
-use Rattle.meaning.proofs.Machine.{rd}
+use Rattle.laws.proofs.Machine.{rd}
 use Rattle.number.specs.Maybe.{maybe}
 use Rattle.number.specs.declared.Maybe.{Maybe}
 use Rattle.answers.specs.Answers.{maybeFor}

@@ -4,8 +4,8 @@ use lib.ListN.{getD}
 use lib.IntN.{pos}
 use native.Mathlib.Omega.{arith}
 use borrow.Author.Tests.{not-true, not-false}
-use Rattle.meaning.proofs.Integers.{and-left}
-use Rattle.meaning.proofs.Machine.{back}
+use Rattle.laws.proofs.Integers.{and-left}
+use Rattle.laws.proofs.Machine.{back}
 use Rattle.bools.proofs.Ends.{zero-not, zero-one}
 use borrow.Author.Needs.{needs}
 use Rattle.bools.proofs.is_zero.Statement.{statement}

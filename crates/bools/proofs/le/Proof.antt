@@ -5,7 +5,7 @@ use lib.ListN.{length, getD}
 use lib.IntN.{pos}
 use lib.Signed.{leZ, ltZ}
 use Rattle.meaning.specs.NumberIntervals.{leBools}
-use Rattle.meaning.proofs.Machine.{back}
+use Rattle.laws.proofs.Machine.{back}
 use Rattle.bools.proofs.Some.{empty-left, empty-right, by-start-end, by-end-start, le-keeps, lt-keeps}
 use borrow.Author.Needs.{needs}
 use Rattle.bools.proofs.le.Statement.{statement}

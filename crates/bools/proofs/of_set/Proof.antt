@@ -3,7 +3,7 @@ use mathlib.Core.Path.{_≡_, sym, ap, _∙_}
 use mathlib.Core.Bool.{Bool, true, false, not, _&&_}
 use borrow.Author.Tests.{not-true, not-false}
 use Rattle.meaning.specs.NumberIntervals.{asBools, filled, zeroOnly, intervals}
-use Rattle.meaning.proofs.Integers.{and-left}
+use Rattle.laws.proofs.Integers.{and-left}
 use borrow.Author.Needs.{needs}
 use Rattle.bools.proofs.of_set.Statement.{statement}
 use Rattle.bools.proofs.of_set.Tie as tie

@@ -7,8 +7,8 @@ use lib.IntN.{ℤ, pos}
 use borrow.Author.Tests.{not-true, not-false}
 use Rattle.meaning.specs.Number.{eqZ}
 use Rattle.meaning.specs.NumberIntervals.{constant, sameNumber, intervals}
-use Rattle.meaning.proofs.Integers.{if-yes, if-no}
-use Rattle.meaning.proofs.Machine.{back}
+use Rattle.laws.proofs.Integers.{if-yes, if-no}
+use Rattle.laws.proofs.Machine.{back}
 use Rattle.bools.proofs.Ends.{constant-not, constant-one, no-right}
 use borrow.Author.Needs.{needs}
 use Rattle.bools.proofs.same_number.Statement.{statement}

@@ -5,8 +5,8 @@ use native.Mathlib.Omega.{arith}
 use lib.ListN.{length}
 use Rattle.meaning.specs.Interval.{each}
 use Rattle.meaning.specs.NumberIntervals.{intervals}
-use Rattle.meaning.proofs.Members.{AllProper}
-use Rattle.meaning.proofs.Machine.{back}
+use Rattle.laws.proofs.Members.{AllProper}
+use Rattle.laws.proofs.Machine.{back}
 use Rattle.sorting.proofs.Steps.{end-at}
 use Rattle.cores.specs.Operation.{ruleOf, factorOf}
 use Rattle.cores.proofs.Joined.{row-few}

@@ -7,7 +7,7 @@ use mir.Syntax.{w64}
 use mir.Val.{toZ}
 use mir.Facts.{toZ-ofZ}
 use Rattle.meaning.specs.Interval.{Proper}
-use Rattle.meaning.proofs.Machine.{back}
+use Rattle.laws.proofs.Machine.{back}
 use Rattle.sorting.proofs.Steps.{end-at}
 use Rattle.cores.specs.Operation.{ruleOf, factorOf}
 use Rattle.cores.proofs.Operations.{pair-few}

@@ -4,7 +4,7 @@ use mathlib.Core.Bool.{Bool, true, false, _&&_, _||_}
 use lib.IntN.{pos}
 use borrow.Author.Tests.{not-true, not-false}
 use Rattle.meaning.specs.NumberIntervals.{filled, contains, zeroFound, intervals}
-use Rattle.meaning.proofs.Integers.{and-left}
+use Rattle.laws.proofs.Integers.{and-left}
 use borrow.Author.Needs.{needs}
 use Rattle.cores.proofs.zero_flag.Statement.{statement}
 use Rattle.cores.proofs.zero_flag.Tie as tie

@@ -7,7 +7,7 @@ use borrow.Author.Needs.{needs}
 use lib.ListN.{length, take, length-set}
 use lib.Seq.{take-length}
 use Rattle.meaning.specs.Lists.{over}
-use Rattle.meaning.proofs.Over.{over-nil, over-take}
+use Rattle.laws.proofs.Over.{over-nil, over-take}
 use Rattle.decimal.proofs.copy_bytes.Statement.{statement}
 use Rattle.decimal.proofs.copy_bytes.Tie as tie
 

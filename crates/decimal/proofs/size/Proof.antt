@@ -2,8 +2,8 @@
 use lib.IntN.{pos}
 use mir.Syntax.{w64}
 use mir.Val.{SFits}
-use Rattle.meaning.proofs.Integers.{zarith, one-part, abs-parts}
-use Rattle.meaning.proofs.Machine.{num, lit, add-ok, add-of, neg-ok, neg-of, cast-ok, cast-is}
+use Rattle.laws.proofs.Integers.{zarith, one-part, abs-parts}
+use Rattle.laws.proofs.Machine.{num, lit, add-ok, add-of, neg-ok, neg-of, cast-ok, cast-is}
 use Rattle.decimal.proofs.size.Statement.{statement}
 use Rattle.decimal.proofs.size.Tie as tie
 

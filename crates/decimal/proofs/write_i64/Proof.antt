@@ -7,8 +7,8 @@ use lib.Signed.{_≤ℤ_, _<ℤ_}
 use mir.Facts.{toZ-ofZ}
 use Rattle.meaning.specs.Bytes.{bytes}
 use Rattle.meaning.specs.Listing.{decimal, decimalZ}
-use Rattle.meaning.proofs.Integers.{zarith}
-use Rattle.meaning.proofs.Machine.{num, cast-ok}
+use Rattle.laws.proofs.Integers.{zarith}
+use Rattle.laws.proofs.Machine.{num, cast-ok}
 use Rattle.decimal.proofs.Digits.{minus-digits, plain-digits}
 use Rattle.decimal.proofs.Chain.{written-as, written-next, room-as, room-next, first-room}
 use borrow.Author.Needs.{needs}

@@ -3,8 +3,8 @@ use mathlib.Core.Path.{ap, _∙_}
 use lib.IntN.{pos, natAbs}
 use lib.Signed.{_≤ℤ_, _<ℤ_}
 use mir.Facts.{toZ-ofZ}
-use Rattle.meaning.proofs.Integers.{zarith}
-use Rattle.meaning.proofs.Machine.{num, cast-ok}
+use Rattle.laws.proofs.Integers.{zarith}
+use Rattle.laws.proofs.Machine.{num, cast-ok}
 use Rattle.listing.proofs.Marked.{count-negative, count-plain}
 use Rattle.listing.proofs.count_in.Statement.{statement}
 use Rattle.listing.proofs.count_in.Tie as tie

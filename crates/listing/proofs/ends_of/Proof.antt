@@ -5,7 +5,7 @@ use native.Mathlib.Omega.{arith}
 use lib.IntN.{pos}
 use lib.ListN.{getD, take, drop}
 use Rattle.meaning.specs.Check.{countIn}
-use Rattle.meaning.proofs.Machine.{back}
+use Rattle.laws.proofs.Machine.{back}
 use borrow.Author.Needs.{needs}
 use Rattle.listing.proofs.ends_of.Statement.{statement}
 use Rattle.listing.proofs.ends_of.Tie as tie

@@ -4,8 +4,8 @@ use borrow.Author.Needs.{needs}
 use mathlib.Core.Path.{_∙_, ap}
 use mir.Facts.{toZ-ofZ}
 use Rattle.meaning.specs.Number.{negative}
-use Rattle.meaning.proofs.Integers.{zarith}
-use Rattle.meaning.proofs.Machine.{num, ok}
+use Rattle.laws.proofs.Integers.{zarith}
+use Rattle.laws.proofs.Machine.{num, ok}
 use Rattle.number.proofs.Points.{abs-neg, abs-pos}
 use Rattle.number.proofs.abs.Statement.{statement}
 use Rattle.number.proofs.abs.Tie as tie

@@ -6,8 +6,8 @@ use Prim.Native.Nat.{ℕ, _+_, _%_, _^_}
 use lib.IntN.{pos}
 use mir.Facts.{toZ-ofZ}
 use Rattle.meaning.specs.Number.{sum, wrap}
-use Rattle.meaning.proofs.Machine.{ok}
-use Rattle.meaning.proofs.Wrapping.{low, wrap-add}
+use Rattle.laws.proofs.Machine.{ok}
+use Rattle.laws.proofs.Wrapping.{low, wrap-add}
 use Rattle.number.proofs.add.Statement.{statement}
 use Rattle.number.proofs.add.Tie as tie
 

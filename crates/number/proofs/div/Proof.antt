@@ -8,8 +8,8 @@ use lib.IntN.{ℤ, pos, _*ℤ_}
 use lib.Signed.{quotZ}
 use mir.Facts.{toZ-ofZ}
 use Rattle.meaning.specs.Number.{ONE, eqZ, wrap, quotient}
-use Rattle.meaning.proofs.Integers.{zarith, if-yes, if-no}
-use Rattle.meaning.proofs.Machine.{lit, ok, same, other, differ}
+use Rattle.laws.proofs.Integers.{zarith, if-yes, if-no}
+use Rattle.laws.proofs.Machine.{lit, ok, same, other, differ}
 use Rattle.number.proofs.div.Statement.{statement}
 use Rattle.number.proofs.div.Tie as tie
 

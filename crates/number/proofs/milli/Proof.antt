@@ -3,8 +3,8 @@
 use mir.Syntax.{w64}
 use mir.Val.{SFits}
 use Rattle.meaning.specs.Number.{ONE}
-use Rattle.meaning.proofs.Integers.{zarith}
-use Rattle.meaning.proofs.Machine.{lit, quot-ok, quot-is}
+use Rattle.laws.proofs.Integers.{zarith}
+use Rattle.laws.proofs.Machine.{lit, quot-ok, quot-is}
 use Rattle.number.proofs.milli.Statement.{statement}
 use Rattle.number.proofs.milli.Tie as tie
 

@@ -5,7 +5,7 @@ use mathlib.Core.Path.{_∙_, ap}
 use lib.IntN.{_*ℤ_}
 use mir.Facts.{toZ-ofZ}
 use Rattle.meaning.specs.Number.{product, thousandth, wrap}
-use Rattle.meaning.proofs.Machine.{ok}
+use Rattle.laws.proofs.Machine.{ok}
 use Rattle.number.proofs.mul.Statement.{statement}
 use Rattle.number.proofs.mul.Tie as tie
 

@@ -3,9 +3,9 @@
 use mathlib.Core.Path.{_∙_, sym}
 use lib.IntN.{negℤ}
 use Rattle.meaning.specs.Number.{MIN, negative}
-use Rattle.meaning.proofs.Integers.{zarith, up-neg, down-neg}
-use Rattle.meaning.proofs.Machine.{num, lit, same, differ, neg-ok, neg-is, rd-fits, fits-out}
-use Rattle.meaning.proofs.Wrapping.{wrap-is, wrap-id}
+use Rattle.laws.proofs.Integers.{zarith, up-neg, down-neg}
+use Rattle.laws.proofs.Machine.{num, lit, same, differ, neg-ok, neg-is, rd-fits, fits-out}
+use Rattle.laws.proofs.Wrapping.{wrap-is, wrap-id}
 use Rattle.number.proofs.neg.Statement.{statement}
 use Rattle.number.proofs.neg.Tie as tie
 

@@ -7,8 +7,8 @@ use lib.IntN.{pos}
 use lib.Signed.{ltZ}
 use Rattle.meaning.specs.Number.{MAX}
 use Rattle.meaning.specs.Number as point
-use Rattle.meaning.proofs.Integers.{zarith, if-yes, if-no}
-use Rattle.meaning.proofs.Machine.{num, lit, add-ok, add-is}
+use Rattle.laws.proofs.Integers.{zarith, if-yes, if-no}
+use Rattle.laws.proofs.Machine.{num, lit, add-ok, add-is}
 use Rattle.number.proofs.Points.{add-one-is}
 use Rattle.number.proofs.next.Statement.{statement}
 use Rattle.number.proofs.next.Tie as tie

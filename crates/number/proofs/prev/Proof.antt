@@ -7,8 +7,8 @@ use lib.IntN.{pos}
 use lib.Signed.{ltZ}
 use Rattle.meaning.specs.Number.{MIN}
 use Rattle.meaning.specs.Number as point
-use Rattle.meaning.proofs.Integers.{zarith, if-yes, if-no}
-use Rattle.meaning.proofs.Machine.{num, lit, sub-ok, sub-is}
+use Rattle.laws.proofs.Integers.{zarith, if-yes, if-no}
+use Rattle.laws.proofs.Machine.{num, lit, sub-ok, sub-is}
 use Rattle.number.proofs.Points.{sub-one-is}
 use Rattle.number.proofs.prev.Statement.{statement}
 use Rattle.number.proofs.prev.Tie as tie

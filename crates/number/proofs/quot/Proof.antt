@@ -7,8 +7,8 @@ use mir.Syntax.{w64}
 use mir.Val.{SFits}
 use mir.Facts.{toZ-ofZ}
 use Rattle.meaning.specs.Number.{negative}
-use Rattle.meaning.proofs.Machine.{lit, ok, same, other, quot-ok, quot-is, quot-fits}
-use Rattle.meaning.proofs.Wrapping.{wrap-id}
+use Rattle.laws.proofs.Machine.{lit, ok, same, other, quot-ok, quot-is, quot-fits}
+use Rattle.laws.proofs.Wrapping.{wrap-id}
 use Rattle.number.proofs.Points.{quot-minus}
 use Rattle.number.proofs.quot.Statement.{statement}
 use Rattle.number.proofs.quot.Tie as tie

@@ -7,8 +7,8 @@ use lib.IntN.{pos, negsuc}
 use mir.Syntax.{w64}
 use mir.Val.{SFits}
 use Rattle.meaning.specs.Number.{eqZ, remainder}
-use Rattle.meaning.proofs.Integers.{zarith, if-yes, if-no}
-use Rattle.meaning.proofs.Machine.{lit, same, other, differ, quot-ok, rem-is}
+use Rattle.laws.proofs.Integers.{zarith, if-yes, if-no}
+use Rattle.laws.proofs.Machine.{lit, same, other, differ, quot-ok, rem-is}
 use Rattle.number.proofs.Points.{rem-minus}
 use Rattle.number.proofs.rem.Statement.{statement}
 use Rattle.number.proofs.rem.Tie as tie

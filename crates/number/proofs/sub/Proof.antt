@@ -5,8 +5,8 @@ use mathlib.Core.Path.{_∙_, ap, sym}
 use Prim.Native.Nat.{ℕ, _+_, _%_, _^_}
 use mir.Facts.{toZ-ofZ}
 use Rattle.meaning.specs.Number.{difference}
-use Rattle.meaning.proofs.Machine.{ok}
-use Rattle.meaning.proofs.Wrapping.{low, wrap-sub}
+use Rattle.laws.proofs.Machine.{ok}
+use Rattle.laws.proofs.Wrapping.{low, wrap-sub}
 use Rattle.number.proofs.sub.Statement.{statement}
 use Rattle.number.proofs.sub.Tie as tie
 

@@ -3,11 +3,11 @@ use lib.ListN.{getD}
 use mir.Facts.{toZ-ofZ}
 use lib.IntN.{pos, ℤ}
 use Rattle.meaning.specs.Outcome.{ok, Res}
-use Rattle.meaning.proofs.Machine.{fit}
+use Rattle.laws.proofs.Machine.{fit}
 use mathlib.Core.Path.{sym, ap, _∙_}
 use Prim.Native.Nat.{_+_, ℕ, _<_}
 use Rattle.meaning.specs.Reading.{closed}
-use Rattle.meaning.proofs.Fusion.{register-below}
+use Rattle.laws.proofs.Fusion.{register-below}
 use Rattle.literals.specs.Answer.{registerOf}
 use Rattle.forms.specs.Answer.{headOf}
 use Rattle.literals.proofs.Within.{byte-lt, rest-is, register-part}

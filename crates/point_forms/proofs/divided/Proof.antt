@@ -1,7 +1,7 @@
 -- `point_forms::divided` meets its contract: no result is the one trouble.
 use mathlib.Core.Path.{_≡_, ap}
 use Rattle.meaning.specs.Outcome.{ok}
-use Rattle.meaning.proofs.Machine.{rd}
+use Rattle.laws.proofs.Machine.{rd}
 use borrow.Author.Needs.{needs}
 use Rattle.point_forms.proofs.divided.Statement.{statement}
 use Rattle.point_forms.proofs.divided.Tie as tie

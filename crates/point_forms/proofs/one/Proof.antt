@@ -3,7 +3,7 @@ use mathlib.Core.Path.{_≡_, ap, _∙_}
 use mir.Facts.{toZ-ofZ}
 use Rattle.meaning.specs.Outcome.{ok, bind}
 use Rattle.meaning.specs.Number.{point1}
-use Rattle.meaning.proofs.Machine.{rd, fit}
+use Rattle.laws.proofs.Machine.{rd, fit}
 use Rattle.forms.specs.Answer.{op1Of}
 use Rattle.point_forms.specs.Answer.{with1}
 use borrow.Author.Needs.{needs}

@@ -3,7 +3,7 @@ use mathlib.Core.Path.{_≡_, _∙_}
 use Rattle.meaning.specs.Refusals.{zeroDivisor}
 use Rattle.meaning.specs.Outcome.{orStop, bind}
 use Rattle.meaning.specs.Number.{point2}
-use Rattle.meaning.proofs.Machine.{rd}
+use Rattle.laws.proofs.Machine.{rd}
 use Rattle.forms.specs.Answer.{op2Of}
 use Rattle.point_forms.specs.Answer.{with2}
 use borrow.Author.Needs.{needs}

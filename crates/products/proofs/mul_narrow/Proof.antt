@@ -6,7 +6,7 @@ use lib.IntN.{_*ℤ_}
 use mir.Facts.{toZ-ofZ}
 use Rattle.meaning.specs.Number.{thousandth}
 use Rattle.meaning.specs.Interval.{span, leastCorner, greatestCorner}
-use Rattle.meaning.proofs.Machine.{ok, back}
+use Rattle.laws.proofs.Machine.{ok, back}
 use Rattle.slices.proofs.Lent.{wrote-as}
 use Rattle.products.specs.Narrow.{Narrow}
 use Rattle.products.proofs.SmallProducts.{small-mul}

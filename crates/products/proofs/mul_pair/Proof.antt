@@ -4,8 +4,8 @@ use borrow.Author.Needs.{needs}
 use mathlib.Core.Path.{sym, _∙_}
 use mir.Facts.{toZ-ofZ}
 use Rattle.meaning.specs.Interval.{mulPair}
-use Rattle.meaning.proofs.Integers.{zarith}
-use Rattle.meaning.proofs.Machine.{num}
+use Rattle.laws.proofs.Integers.{zarith}
+use Rattle.laws.proofs.Machine.{num}
 use Rattle.slices.proofs.Lent.{wrote-as}
 use Rattle.products.proofs.SmallProducts.{is-narrow}
 use Rattle.products.proofs.mul_pair.Statement.{statement}

@@ -7,7 +7,7 @@ use lib.Signed.{_≤ℤ_}
 use mir.Facts.{toZ-ofZ}
 use Rattle.meaning.specs.Number.{thousandth}
 use Rattle.meaning.specs.Interval.{Spread, leastCorner, greatestCorner, spread, pieces, mulPair}
-use Rattle.meaning.proofs.Products.{corners-ordered}
+use Rattle.laws.proofs.Products.{corners-ordered}
 use Rattle.slices.proofs.Lent.{wrote-as}
 use Rattle.wide.specs.Exact.{held}
 use Rattle.products.proofs.mul_wide.Statement.{statement}

@@ -5,7 +5,7 @@ use mathlib.Core.Path.{_∙_, ap₂}
 use mir.Facts.{toZ-ofZ}
 use Rattle.meaning.specs.Number.{smaller, larger}
 use Rattle.meaning.specs.Interval.{leastCorner, greatestCorner}
-use Rattle.meaning.proofs.Machine.{ok}
+use Rattle.laws.proofs.Machine.{ok}
 use Rattle.number.proofs.Points.{mul-gives}
 use Rattle.products.proofs.SmallProducts.{st-wraps, sf-wraps, et-wraps, ef-wraps}
 use Rattle.products.proofs.narrow_corners.Statement.{statement}

@@ -5,7 +5,7 @@ use mathlib.Core.Path.{_∙_, ap, sym}
 use mathlib.Core.List.{_++_}
 use Rattle.meaning.specs.Number.{MIN, MAX, thousandth}
 use Rattle.meaning.specs.Interval.{span, pieces}
-use Rattle.meaning.proofs.Machine.{back}
+use Rattle.laws.proofs.Machine.{back}
 use Rattle.slices.proofs.Lent.{wrote-as}
 use Rattle.wide.specs.Range.{rangeOf}
 use Rattle.wide.specs.declared.spread.Range.{Range}

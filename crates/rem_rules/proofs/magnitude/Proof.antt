@@ -3,8 +3,8 @@ use lib.IntN.{ℤ, pos, _-ℤ_}
 use lib.Signed.{_≤ℤ_}
 use mathlib.Core.Path.{sym, ap, _∙_}
 use mir.Facts.{toZ-ofZ}
-use Rattle.meaning.proofs.Integers.{zarith}
-use Rattle.meaning.proofs.Machine.{lit, ltZ-is}
+use Rattle.laws.proofs.Integers.{zarith}
+use Rattle.laws.proofs.Machine.{lit, ltZ-is}
 use Rattle.rem_rules.proofs.MagnitudeRules.{magnitude-of, magnitude-is}
 use Rattle.rem_rules.proofs.magnitude.Statement.{statement}
 use Rattle.rem_rules.proofs.magnitude.Tie as tie

@@ -1,7 +1,7 @@
 -- n is below 2^63, so its negative fits.
 use lib.IntN.{pos}
 use native.Mathlib.Omega.{arith}
-use Rattle.meaning.proofs.Machine.{fit, neg-ok, neg-is}
+use Rattle.laws.proofs.Machine.{fit, neg-ok, neg-is}
 use borrow.Author.Needs.{needs}
 use Rattle.rem_rules.proofs.minus.Statement.{statement}
 use Rattle.rem_rules.proofs.minus.Tie as tie

@@ -1,7 +1,7 @@
 -- n is below 2^63, so its bits are those of the number n.
 use lib.IntN.{pos}
 use mir.Facts.{toZ-ofZ}
-use Rattle.meaning.proofs.Machine.{fit}
+use Rattle.laws.proofs.Machine.{fit}
 use borrow.Author.Needs.{needs}
 use Rattle.rem_rules.proofs.plus.Statement.{statement}
 use Rattle.rem_rules.proofs.plus.Tie as tie

@@ -4,7 +4,7 @@ use mathlib.Core.Bool.{true}
 use mir.Facts.{toZ-ofZ}
 use Rattle.meaning.specs.Number.{MIN, within}
 use Rattle.meaning.specs.Interval.{span}
-use Rattle.meaning.proofs.Machine.{ltZ-is}
+use Rattle.laws.proofs.Machine.{ltZ-is}
 use Rattle.slices.proofs.Lent.{wrote-as}
 use Rattle.interval.proofs.Cuts.{told, within-is, MIN-fits}
 use Rattle.rem_rules.proofs.MagnitudeRules.{against-more, against-least, against-self}

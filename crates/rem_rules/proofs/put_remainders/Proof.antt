@@ -5,7 +5,7 @@ use mathlib.Core.Path.{_≡_, ap, ap₂, _∙_}
 use Prim.Native.Nat.{min, max}
 use mir.Facts.{toZ-ofZ}
 use Rattle.meaning.specs.Interval.{leastMagnitude, greatestMagnitude, remMagnitudes, ruleF}
-use Rattle.meaning.proofs.Machine.{lit, ltZ-is}
+use Rattle.laws.proofs.Machine.{lit, ltZ-is}
 use Rattle.slices.proofs.Lent.{wrote-as, room-as}
 use Rattle.rem_rules.proofs.MagnitudeRules.{some-magnitude, magnitude-top, rule-f}
 use borrow.Author.Needs.{needs}

@@ -1,7 +1,7 @@
 -- Negation turns the ends round.
 use mathlib.Core.Path.{_∙_}
 use Rattle.meaning.specs.Interval.{span}
-use Rattle.meaning.proofs.Machine.{back}
+use Rattle.laws.proofs.Machine.{back}
 use Rattle.slices.proofs.Lent.{wrote-as}
 use Rattle.rem_rules.proofs.MagnitudeRules.{turned, kept}
 use borrow.Author.Needs.{needs}

@@ -5,7 +5,7 @@ use mathlib.Core.Path.{_≡_, ap, ap₂, _∙_}
 use Prim.Native.Nat.{ℕ, _-_, max}
 use mir.Facts.{toZ-ofZ}
 use Rattle.meaning.specs.Interval.{span, greatestMagnitude}
-use Rattle.meaning.proofs.Machine.{back}
+use Rattle.laws.proofs.Machine.{back}
 use Rattle.slices.proofs.Lent.{wrote-as}
 use Rattle.rem_rules.proofs.MagnitudeRules.{some-magnitude, magnitude-top, under-is}
 use borrow.Author.Needs.{needs}

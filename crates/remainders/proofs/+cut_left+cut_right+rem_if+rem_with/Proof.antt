@@ -9,7 +9,7 @@ use mathlib.Core.List.{_++_}
 use mir.Facts.{toZ-ofZ}
 use Rattle.meaning.specs.Number.{MIN}
 use Rattle.meaning.specs.Interval.{span, only, greatestMagnitude, against, cutLeft, cutRight, remWith}
-use Rattle.meaning.proofs.Machine.{rd}
+use Rattle.laws.proofs.Machine.{rd}
 use Rattle.slices.proofs.Lent.{wrote-as, wrote-none, first-room, room-next, wrote-next, room-as, two-first, two-second, two-wrote}
 use Rattle.interval.proofs.Cuts.{told, cut-first, cut-second, cut-wrote, part-below, part-above, taken, not-taken, pair-is, room-two}
 use Rattle.rem_rules.proofs.MagnitudeRules.{against-room}

@@ -7,7 +7,7 @@ use lib.IntN.{ℤ}
 use Prim.Native.Nat.{ℕ}
 use lib.ListN.{length, replicate, length-set, length-replicate, drop-of-length-le}
 use Rattle.meaning.specs.Lists.{over}
-use Rattle.meaning.proofs.Over.{over-nil, over-fill}
+use Rattle.laws.proofs.Over.{over-nil, over-fill}
 use mir.Syntax.{w64}
 use mir.Val.{toZ, ofZ}
 use mir.Facts.{toZ-ofZ}

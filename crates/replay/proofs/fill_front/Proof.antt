@@ -8,7 +8,7 @@ use lib.ListN.{length, take, drop, replicate, length-take, length-replicate}
 use lib.Seq.{length-take-le}
 use Rattle.meaning.specs.Lists.{over}
 use mir.Facts.{toZ-ofZ}
-use Rattle.meaning.proofs.Machine.{rd}
+use Rattle.laws.proofs.Machine.{rd}
 use borrow.Author.Tests.{le-leb, lt-leb}
 use borrow.Author.Needs.{needs}
 use Rattle.replay.proofs.fill_front.Statement.{statement}

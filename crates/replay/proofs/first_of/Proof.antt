@@ -1,6 +1,6 @@
 -- The test is that of the definition.
 use borrow.Author.Tests.{eq-eqb, ne-eqb}
-use Rattle.meaning.proofs.Integers.{if-yes, if-no}
+use Rattle.laws.proofs.Integers.{if-yes, if-no}
 use Rattle.replay.proofs.first_of.Statement.{statement}
 use Rattle.replay.proofs.first_of.Tie as tie
 

@@ -7,7 +7,7 @@ use lib.IntN.{pos}
 use lib.ListN.{getD}
 use mir.Facts.{toZ-ofZ}
 use Rattle.meaning.specs.Number.{wrap}
-use Rattle.meaning.proofs.Machine.{ok}
+use Rattle.laws.proofs.Machine.{ok}
 use Rattle.replay.specs.Stored.{bitsAt}
 use borrow.Author.Needs.{needs}
 use Rattle.replay.proofs.number_in.Statement.{statement}

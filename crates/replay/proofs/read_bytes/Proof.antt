@@ -3,7 +3,7 @@ use native.Mathlib.Omega.{arith}
 use mathlib.Core.Bool.{false}
 use lib.ListN.{length-take}
 use borrow.Author.Needs.{needs}
-use Rattle.meaning.proofs.Integers.{true-T}
+use Rattle.laws.proofs.Integers.{true-T}
 use Rattle.replay.proofs.read_bytes.Statement.{statement}
 use Rattle.replay.proofs.read_bytes.Tie as tie
 

@@ -10,7 +10,7 @@ use lib.ListN.{length, take, getD}
 use lib.Seq.{take-suc, take-all}
 use mir.Syntax.{w64}
 use mir.Val.{ofZ}
-use Rattle.meaning.proofs.Machine.{fit, same as same-number}
+use Rattle.laws.proofs.Machine.{fit, same as same-number}
 use borrow.Author.Needs.{needs}
 use Rattle.replay.proofs.same.Statement.{statement}
 use Rattle.replay.proofs.same.Tie as tie

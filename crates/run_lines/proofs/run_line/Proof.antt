@@ -2,7 +2,7 @@
 use mathlib.Core.Path.{_≡_, sym, ap, _∙_}
 use mir.Facts.{toZ-ofZ}
 use Rattle.meaning.specs.Number.{within}
-use Rattle.meaning.proofs.Machine.{rd, fit}
+use Rattle.laws.proofs.Machine.{rd, fit}
 use Rattle.point_forms.specs.declared.Num.the-variants as num
 use native.Mathlib.Omega.{arith}
 use Rattle.run_lines.proofs.Lines.{refused-halts, in-there, in-steps, hold-there, hold-steps, put-there, put-goes, put-halts}

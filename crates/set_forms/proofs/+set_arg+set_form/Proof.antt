@@ -6,8 +6,8 @@ use borrow.Author.Needs.{needs}
 use Rattle.meaning.specs.Outcome.{ok}
 use Rattle.meaning.specs.Interval.{span}
 use Rattle.meaning.specs.Reading.{closed}
-use Rattle.meaning.proofs.Machine.{rd}
-use Rattle.meaning.proofs.Fusion.{register-below}
+use Rattle.laws.proofs.Machine.{rd}
+use Rattle.laws.proofs.Fusion.{register-below}
 use Rattle.literals.specs.Answer.{registerOf}
 use Rattle.forms.specs.Answer.{headOf}
 use Rattle.literals.proofs.Within.{byte-lt, rest-is, register-part}

@@ -5,7 +5,7 @@ use lib.ListN.{drop}
 use Rattle.meaning.specs.Outcome.{ok}
 use Rattle.meaning.specs.Interval.{span}
 use Rattle.meaning.specs.Check.{inside, setIn}
-use Rattle.meaning.proofs.Machine.{rd}
+use Rattle.laws.proofs.Machine.{rd}
 use Rattle.lines.specs.Answer.{lineFrom}
 use Rattle.set_values.specs.declared.SetV.{SetV}
 use Rattle.set_values.specs.Value.{valueOf}

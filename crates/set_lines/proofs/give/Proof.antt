@@ -3,7 +3,7 @@ use mathlib.Core.Path.{ap, _∙_}
 use native.Mathlib.Omega.{arith}
 use lib.ListN.{length, length-set}
 use mir.Facts.{toZ-ofZ}
-use Rattle.meaning.proofs.Machine.{ok}
+use Rattle.laws.proofs.Machine.{ok}
 use Rattle.set_lines.proofs.Giving.{given-is, give-room, give-length}
 use borrow.Author.Needs.{needs}
 use Rattle.set_lines.proofs.give.Statement.{statement}

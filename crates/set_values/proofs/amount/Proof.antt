@@ -1,6 +1,6 @@
 -- A number that is not negative is its own magnitude.
-use Rattle.meaning.proofs.Integers.{zarith}
-use Rattle.meaning.proofs.Machine.{num, cast-ok, cast-is}
+use Rattle.laws.proofs.Integers.{zarith}
+use Rattle.laws.proofs.Machine.{num, cast-ok, cast-is}
 use Rattle.set_values.proofs.amount.Statement.{statement}
 use Rattle.set_values.proofs.amount.Tie as tie
 

@@ -6,8 +6,8 @@ use native.Mathlib.Omega.{arith}
 use lib.ListN.{drop}
 use lib.Signed.{leZ}
 use Rattle.meaning.specs.NumberIntervals.{apart, startsAfter}
-use Rattle.meaning.proofs.Integers.{and-left}
-use Rattle.meaning.proofs.Machine.{back, fit, fits-range}
+use Rattle.laws.proofs.Integers.{and-left}
+use Rattle.laws.proofs.Machine.{back, fit, fits-range}
 use Rattle.sorting.proofs.Steps.{end-at}
 use Rattle.sets.proofs.Reading.{after-more}
 use borrow.Author.Needs.{needs}

@@ -7,12 +7,12 @@ use lib.Signed.{leZ}
 use Rattle.meaning.specs.Lists.{All}
 use Rattle.meaning.specs.Number.{InRange}
 use Rattle.meaning.specs.NumberIntervals.{normal}
-use Rattle.meaning.proofs.Integers.{never}
-use Rattle.meaning.proofs.Machine.{back, fit, fits-range}
+use Rattle.laws.proofs.Integers.{never}
+use Rattle.laws.proofs.Machine.{back, fit, fits-range}
 use Rattle.sorting.proofs.Steps.{end-at}
 use borrow.Author.Needs.{needs}
 use borrow.Author.Tests.{not-true, not-false}
-use Rattle.meaning.proofs.Flat.{ends-normal}
+use Rattle.laws.proofs.Flat.{ends-normal}
 use Rattle.sets.proofs.Reading.{normal-end, normal-last, normal-one, normal-not, normal-so, range-two, range-all}
 use Rattle.sets.proofs.is_normal.Statement.{statement}
 use Rattle.sets.proofs.is_normal.Tie as tie

@@ -4,7 +4,7 @@ use Prim.Native.Nat.{_+_, _-_}
 use native.Mathlib.Omega.{arith}
 use lib.ListN.{length}
 use Rattle.meaning.specs.Number.{larger}
-use Rattle.meaning.proofs.Machine.{back}
+use Rattle.laws.proofs.Machine.{back}
 use Rattle.sorting.proofs.Steps.{end-at}
 use Rattle.sets.proofs.Bridge.{set-valid}
 use borrow.Author.Needs.{needs}

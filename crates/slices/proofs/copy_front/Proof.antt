@@ -5,8 +5,8 @@ use native.Mathlib.Omega.{arith}
 use lib.ListN.{length, take, getD, length-set}
 use lib.IntN.{pos}
 use Rattle.meaning.specs.Lists.{over}
-use Rattle.meaning.proofs.Machine.{back}
-use Rattle.meaning.proofs.Over.{over-nil, over-take}
+use Rattle.laws.proofs.Machine.{back}
+use Rattle.laws.proofs.Over.{over-nil, over-take}
 use borrow.Author.Needs.{needs}
 use Rattle.slices.proofs.copy_front.Statement.{statement}
 use Rattle.slices.proofs.copy_front.Tie as tie

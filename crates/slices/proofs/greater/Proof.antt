@@ -3,7 +3,7 @@ use mathlib.Core.Path.{_≡_, sym, _∙_}
 use mathlib.Core.Bool.{true, false}
 use lib.Signed.{leZ}
 use mir.Facts.{toZ-ofZ}
-use Rattle.meaning.proofs.Machine.{leZ-is}
+use Rattle.laws.proofs.Machine.{leZ-is}
 use borrow.Author.Needs.{needs}
 use Rattle.slices.proofs.greater.Statement.{statement}
 use Rattle.slices.proofs.greater.Tie as tie

@@ -3,7 +3,7 @@ use mathlib.Core.Path.{refl}
 use mathlib.Core.List.{[], _∷_}
 use mir.Facts.{toZ-ofZ}
 use Rattle.meaning.specs.NumberIntervals.{flat}
-use Rattle.meaning.proofs.Over.{over-sets}
+use Rattle.laws.proofs.Over.{over-sets}
 use borrow.Author.Needs.{needs}
 use Rattle.slices.proofs.put_one.Statement.{statement}
 use Rattle.slices.proofs.put_one.Tie as tie

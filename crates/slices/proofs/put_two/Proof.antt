@@ -5,7 +5,7 @@ use native.Mathlib.Omega.{arith}
 use lib.ListN.{length-set}
 use mir.Facts.{toZ-ofZ}
 use Rattle.meaning.specs.NumberIntervals.{flat}
-use Rattle.meaning.proofs.Over.{over-sets}
+use Rattle.laws.proofs.Over.{over-sets}
 use borrow.Author.Needs.{needs}
 use Rattle.slices.proofs.put_two.Statement.{statement}
 use Rattle.slices.proofs.put_two.Tie as tie

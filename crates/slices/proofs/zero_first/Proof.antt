@@ -5,7 +5,7 @@ use native.Mathlib.Omega.{arith}
 use lib.ListN.{length, replicate, length-set}
 use lib.IntN.{pos}
 use Rattle.meaning.specs.Lists.{over}
-use Rattle.meaning.proofs.Over.{over-nil, over-fill}
+use Rattle.laws.proofs.Over.{over-nil, over-fill}
 use borrow.Author.Needs.{needs}
 use Rattle.slices.proofs.zero_first.Statement.{statement}
 use Rattle.slices.proofs.zero_first.Tie as tie

@@ -5,7 +5,7 @@ use mathlib.Core.Path.{_≡_, _∙_, ap, sym}
 use mathlib.Core.Bool.{Bool, _&&_}
 use mir.Facts.{toZ-ofZ}
 use Rattle.meaning.specs.Number.{ofBool, truth}
-use Rattle.meaning.proofs.Machine.{ok}
+use Rattle.laws.proofs.Machine.{ok}
 use Rattle.truth.proofs.and.Statement.{statement}
 use Rattle.truth.proofs.and.Tie as tie
 

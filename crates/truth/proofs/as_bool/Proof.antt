@@ -3,7 +3,7 @@
 use mathlib.Core.Path.{ap}
 use mathlib.Core.Bool.{not}
 use lib.IntN.{pos}
-use Rattle.meaning.proofs.Machine.{lit, eqb-is}
+use Rattle.laws.proofs.Machine.{lit, eqb-is}
 use Rattle.truth.proofs.as_bool.Statement.{statement}
 use Rattle.truth.proofs.as_bool.Tie as tie
 

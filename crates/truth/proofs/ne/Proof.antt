@@ -5,7 +5,7 @@ use mathlib.Core.Path.{_∙_, ap}
 use mathlib.Core.Bool.{Bool, not}
 use mir.Facts.{toZ-ofZ}
 use Rattle.meaning.specs.Number.{ofBool}
-use Rattle.meaning.proofs.Machine.{ok, eqb-is}
+use Rattle.laws.proofs.Machine.{ok, eqb-is}
 use Rattle.truth.proofs.ne.Statement.{statement}
 use Rattle.truth.proofs.ne.Tie as tie
 

@@ -6,7 +6,7 @@ use Rattle.wording.proofs.TextLaws.{interval-as, no-interval, first-int
 use Prim.Native.Nat.{_-_, _≤_}
 use lib.ListN.{length, getD, take, drop, length-drop, length-take}
 use lib.IntN.{pos}
-use Rattle.meaning.proofs.Machine.{back}
+use Rattle.laws.proofs.Machine.{back}
 use Rattle.meaning.specs.NumberIntervals.{intervals}
 use Rattle.meaning.specs.Listing.{intervalTexts}
 use borrow.Author.Needs.{needs}

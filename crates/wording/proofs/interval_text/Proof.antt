@@ -1,6 +1,6 @@
 -- The start behind a space, and the end behind two points in what is left. Assumes nothing.
 use mathlib.Core.List.{_++_}
-use Rattle.meaning.proofs.Machine.{rd}
+use Rattle.laws.proofs.Machine.{rd}
 use mir.Facts.{toZ-ofZ}
 use Rattle.meaning.specs.Bytes.{bytes}
 use Rattle.meaning.specs.Listing.{decimalZ}

@@ -2,7 +2,7 @@
 use mathlib.Core.Path.{ap}
 use mathlib.Core.List.{_++_}
 use lib.IntN.{ℤ}
-use Rattle.meaning.proofs.Machine.{rd}
+use Rattle.laws.proofs.Machine.{rd}
 use mir.Facts.{toZ-ofZ}
 use Rattle.meaning.specs.Listing.{decimalZ}
 use Rattle.decimal.proofs.Chain.{written-as, written-next, room-as, room-next, first-room}

@@ -4,9 +4,9 @@ use lib.IntN.{pos}
 use mir.Syntax.{w64}
 use mir.Val.{SFits}
 use Rattle.meaning.specs.Number.{MAX}
-use Rattle.meaning.proofs.Integers.{zarith}
-use Rattle.meaning.proofs.Machine.{num, lit, add-ok, add-of, cast-ok, cast-is, bits-pos, bits-neg}
-use Rattle.meaning.proofs.Wrapping.{low-bits}
+use Rattle.laws.proofs.Integers.{zarith}
+use Rattle.laws.proofs.Machine.{num, lit, add-ok, add-of, cast-ok, cast-is, bits-pos, bits-neg}
+use Rattle.laws.proofs.Wrapping.{low-bits}
 use Rattle.words.proofs.bits.Statement.{statement}
 use Rattle.words.proofs.bits.Tie as tie
 

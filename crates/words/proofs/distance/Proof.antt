@@ -4,7 +4,7 @@ use borrow.Author.Needs.{needs}
 use mathlib.Core.Path.{_∙_, ap, sym}
 use Prim.Native.Nat.{ℕ, _+_, _%_, _^_}
 use mir.Facts.{toZ-ofZ}
-use Rattle.meaning.proofs.Wrapping.{low, dist-is}
+use Rattle.laws.proofs.Wrapping.{low, dist-is}
 use Rattle.words.proofs.distance.Statement.{statement}
 use Rattle.words.proofs.distance.Tie as tie
 

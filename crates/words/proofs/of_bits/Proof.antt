@@ -6,9 +6,9 @@ use mir.Syntax.{w64}
 use mir.Val.{SFits}
 use mir.Facts.{toZ-ofZ}
 use Rattle.meaning.specs.Number.{MIN}
-use Rattle.meaning.proofs.Integers.{zarith}
-use Rattle.meaning.proofs.Machine.{num, lit, add-ok, add-of, rd-fits}
-use Rattle.meaning.proofs.Wrapping.{wrap-is, wrap-id}
+use Rattle.laws.proofs.Integers.{zarith}
+use Rattle.laws.proofs.Machine.{num, lit, add-ok, add-of, rd-fits}
+use Rattle.laws.proofs.Wrapping.{wrap-is, wrap-id}
 use Rattle.words.proofs.of_bits.Statement.{statement}
 use Rattle.words.proofs.of_bits.Tie as tie
 

@@ -6,8 +6,8 @@ use Prim.Native.Nat.{ℕ, _*_, _%_, _^_}
 use lib.IntN.{pos}
 use mir.Facts.{toZ-ofZ}
 use Rattle.meaning.specs.Number.{wrap}
-use Rattle.meaning.proofs.Machine.{ok}
-use Rattle.meaning.proofs.Wrapping.{low, wrap-mul}
+use Rattle.laws.proofs.Machine.{ok}
+use Rattle.laws.proofs.Wrapping.{low, wrap-mul}
 use Rattle.words.proofs.wrapping_mul.Statement.{statement}
 use Rattle.words.proofs.wrapping_mul.Tie as tie
 

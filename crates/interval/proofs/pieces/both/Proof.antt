@@ -1,6 +1,6 @@
 -- The second test is asked only where the first holds, as && does.
 use mathlib.Core.Path.{sym, _∙_}
-use Rattle.meaning.proofs.Integers.{and-left}
+use Rattle.laws.proofs.Integers.{and-left}
 use Rattle.interval.proofs.Cuts.{told, within-is, and-first}
 use borrow.Author.Needs.{needs}
 use Rattle.interval.proofs.pieces.both.Statement.{statement}

@@ -2,8 +2,8 @@
 use lib.Signed.{leZ}
 use mathlib.Core.Path.{sym, _∙_}
 use Rattle.meaning.specs.Number.{within}
-use Rattle.meaning.proofs.Integers.{and-left}
-use Rattle.meaning.proofs.Machine.{leZ-is}
+use Rattle.laws.proofs.Integers.{and-left}
+use Rattle.laws.proofs.Machine.{leZ-is}
 use Rattle.interval.proofs.Cuts.{and-first}
 use Rattle.interval.proofs.pieces.holds.Statement.{statement}
 use Rattle.interval.proofs.pieces.holds.Tie as tie

@@ -2,8 +2,8 @@
 use lib.IntN.{pos}
 use mathlib.Core.Path.{_∙_}
 use Rattle.meaning.specs.Number.{MAX}
-use Rattle.meaning.proofs.Integers.{zarith}
-use Rattle.meaning.proofs.Machine.{num, lit, same, differ, add-ok, add-is}
+use Rattle.laws.proofs.Integers.{zarith}
+use Rattle.laws.proofs.Machine.{num, lit, same, differ, add-ok, add-is}
 use Rattle.interval.proofs.Cuts.{MAX-fits, suc-is}
 use Rattle.interval.proofs.pieces.later.Statement.{statement}
 use Rattle.interval.proofs.pieces.later.Tie as tie

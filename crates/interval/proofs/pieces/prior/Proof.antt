@@ -2,8 +2,8 @@
 use lib.IntN.{pos}
 use mathlib.Core.Path.{_∙_}
 use Rattle.meaning.specs.Number.{MIN}
-use Rattle.meaning.proofs.Integers.{zarith}
-use Rattle.meaning.proofs.Machine.{num, lit, same, differ, sub-ok, sub-is}
+use Rattle.laws.proofs.Integers.{zarith}
+use Rattle.laws.proofs.Machine.{num, lit, same, differ, sub-ok, sub-is}
 use Rattle.interval.proofs.Cuts.{MIN-fits, pred-is}
 use Rattle.interval.proofs.pieces.prior.Statement.{statement}
 use Rattle.interval.proofs.pieces.prior.Tie as tie

@@ -8,8 +8,8 @@ use lib.Signed.{_<ℤ_}
 use mir.Facts.{toZ-ofZ}
 use Rattle.meaning.specs.Number.{MIN, MAX}
 use Rattle.meaning.specs.Interval.{Interval, span, only, absRest}
-use Rattle.meaning.proofs.Integers.{zarith}
-use Rattle.meaning.proofs.Machine.{num, lit, same, differ, back}
+use Rattle.laws.proofs.Integers.{zarith}
+use Rattle.laws.proofs.Machine.{num, lit, same, differ, back}
 use Rattle.slices.proofs.Lent.{wrote-as}
 use Rattle.interval.proofs.SignRules.{abs-least, abs-from-least, abs-plain}
 use Rattle.interval.proofs.sign.abs_pair.Statement.{statement}

@@ -7,8 +7,8 @@ use lib.Signed.{_<ℤ_}
 use mir.Facts.{toZ-ofZ}
 use Rattle.meaning.specs.Number.{MIN, larger}
 use Rattle.meaning.specs.Interval.{span}
-use Rattle.meaning.proofs.Integers.{zarith}
-use Rattle.meaning.proofs.Machine.{num, ok}
+use Rattle.laws.proofs.Integers.{zarith}
+use Rattle.laws.proofs.Machine.{num, ok}
 use Rattle.number.proofs.Points.{neg-gives}
 use Rattle.interval.proofs.SignRules.{rest-positive, rest-negative, rest-both}
 use Rattle.interval.proofs.sign.magnitudes.Statement.{statement}

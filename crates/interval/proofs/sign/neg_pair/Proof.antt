@@ -6,8 +6,8 @@ use mathlib.Core.List.{_++_}
 use lib.Signed.{_<ℤ_}
 use Rattle.meaning.specs.Number.{MIN, MAX}
 use Rattle.meaning.specs.Interval.{span, only}
-use Rattle.meaning.proofs.Integers.{zarith}
-use Rattle.meaning.proofs.Machine.{lit, same, differ}
+use Rattle.laws.proofs.Integers.{zarith}
+use Rattle.laws.proofs.Machine.{lit, same, differ}
 use Rattle.number.proofs.Points.{neg-gives}
 use Rattle.slices.proofs.Lent.{wrote-as}
 use Rattle.interval.proofs.SignRules.{neg-least, neg-from-least, neg-plain}

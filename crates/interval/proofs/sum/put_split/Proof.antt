@@ -8,7 +8,7 @@ use lib.Signed.{leZ}
 use mir.Facts.{toZ-ofZ}
 use Rattle.meaning.specs.Number.{MIN, MAX}
 use Rattle.meaning.specs.Interval.{span, whole, one, two, pieces, unscaled}
-use Rattle.meaning.proofs.Machine.{leZ-is}
+use Rattle.laws.proofs.Machine.{leZ-is}
 use Rattle.slices.proofs.Lent.{wrote-as}
 use Rattle.interval.proofs.sum.put_split.Statement.{statement}
 use Rattle.interval.proofs.sum.put_split.Tie as tie

@@ -5,7 +5,7 @@ use borrow.Author.Tests.{leb-true, le-leb}
 use Prim.Native.Nat.{_+_, _-_, _^_}
 use native.Mathlib.Omega.{arith}
 use lib.Dec.{leb}
-use Rattle.meaning.proofs.Integers.{same-test}
+use Rattle.laws.proofs.Integers.{same-test}
 use Rattle.interval.proofs.sum.reach_all.Statement.{statement}
 use Rattle.interval.proofs.sum.reach_all.Tie as tie
 

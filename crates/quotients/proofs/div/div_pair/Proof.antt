@@ -6,7 +6,7 @@ use mathlib.Core.List.{[]}
 use mir.Facts.{toZ-ofZ}
 use Rattle.meaning.specs.Number.{within}
 use Rattle.meaning.specs.Interval.{divPart}
-use Rattle.meaning.proofs.Machine.{lit, ltZ-is}
+use Rattle.laws.proofs.Machine.{lit, ltZ-is}
 use Rattle.slices.proofs.Lent.{wrote-as, room-as, two-first, two-second, two-wrote}
 use Rattle.interval.proofs.Cuts.{told, within-is, pair-is}
 use Rattle.quotients.proofs.DivRules.{pair-cut, pair-plain, below-zero, above-zero, div-room}

@@ -5,7 +5,7 @@ use mathlib.Core.Path.{_≡_, sym, ap, ap₂, _∙_, subst₂}
 use mir.Facts.{toZ-ofZ}
 use Rattle.meaning.specs.Number.{MIN, MAX, ONE}
 use Rattle.meaning.specs.Interval.{spread, divPiece}
-use Rattle.meaning.proofs.Integers.{scale-le}
+use Rattle.laws.proofs.Integers.{scale-le}
 use Rattle.slices.proofs.Lent.{wrote-as, room-as, two-first, two-second, two-wrote}
 use Rattle.wide.specs.Exact.{held}
 use Rattle.wide.specs.Range.{rangeOf}

@@ -10,8 +10,8 @@ use Rattle.meaning.specs.Number.{MIN, within}
 use Rattle.meaning.specs.Interval.{only}
 use Rattle.quotients.specs.Hull.{hull}
 use Rattle.meaning.specs.NumberIntervals.{flat}
-use Rattle.meaning.proofs.Machine.{lit, ltZ-is}
-use Rattle.meaning.proofs.Integers.{zarith}
+use Rattle.laws.proofs.Machine.{lit, ltZ-is}
+use Rattle.laws.proofs.Integers.{zarith}
 use Rattle.slices.proofs.Lent.{wrote-as, first-room, room-next, wrote-next, room-as, two-first, two-second, two-wrote}
 use Rattle.interval.proofs.Cuts.{told, both-is, MIN-fits, pair-is, room-two}
 use Rattle.quotients.proofs.DivRules.{AFTER, pastPart, hull-if-room, plain-room, start-nonzero, end-nonzero, past-hull, short-hull, special-piece, plain-piece, plain-hull}

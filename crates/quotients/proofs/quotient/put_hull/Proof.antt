@@ -3,7 +3,7 @@ use mathlib.Core.Path.{sym, ap₂, _∙_}
 use mir.Facts.{toZ-ofZ}
 use Rattle.meaning.specs.Number.{smaller, larger}
 use Rattle.meaning.specs.Interval.{span, leastCorner, greatestCorner}
-use Rattle.meaning.proofs.Machine.{back}
+use Rattle.laws.proofs.Machine.{back}
 use Rattle.slices.proofs.Lent.{wrote-as}
 use Rattle.quotients.specs.Hull.{hull, wrappedQuotient}
 use borrow.Author.Needs.{needs}

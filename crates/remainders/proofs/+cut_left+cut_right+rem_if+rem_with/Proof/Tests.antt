@@ -6,8 +6,8 @@ use mathlib.Core.List.{List}
 use Prim.Native.Nat.{ℕ, _-_}
 use Rattle.meaning.specs.Number.{MIN, within}
 use Rattle.meaning.specs.Interval.{Interval, PairOp, cutLeft, cutRight, ruleA, ruleC, ruleD, ruleE, ruleF, remWith}
-use Rattle.meaning.proofs.Integers.{and-both}
-use Rattle.meaning.proofs.Machine.{rd}
+use Rattle.laws.proofs.Integers.{and-both}
+use Rattle.laws.proofs.Machine.{rd}
 use Rattle.interval.proofs.Cuts.{told, pair-is}
 use Rattle.remainders.proofs.RemRules.{PastA, PastB, PastC, PastD, codeB, with-a, with-b, with-c, with-d, with-e, with-f}
 use Rattle.remainders.proofs.+cut_left+cut_right+rem_if+rem_with.Proof.Cycle.{rem-with-at, rem-with-in}

@@ -8,7 +8,7 @@ use mir.Val.{SFits}
 use mir.Facts.{toZ-ofZ}
 use Rattle.meaning.specs.Number.{smaller, larger}
 use Rattle.meaning.specs.Interval.{leastCorner, greatestCorner}
-use Rattle.meaning.proofs.Machine.{rd}
+use Rattle.laws.proofs.Machine.{rd}
 use Rattle.wide.proofs.corners.corners.Statement.{statement}
 use Rattle.wide.proofs.corners.corners.Tie as tie
 

@@ -1,6 +1,6 @@
 -- The order of the two decides.
 use mathlib.Core.Path.{sym, _∙_}
-use Rattle.meaning.proofs.Integers.{if-yes, if-no}
+use Rattle.laws.proofs.Integers.{if-yes, if-no}
 use Rattle.wide.specs.Exact.{held}
 use borrow.Author.Needs.{needs}
 use Rattle.wide.proofs.corners.least.Statement.{statement}

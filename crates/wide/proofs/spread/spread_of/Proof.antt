@@ -11,8 +11,8 @@ use lib.Dec.{eqb}
 use lib.IntN.{ℤ, pos}
 use Rattle.meaning.specs.Number.{eqZ, window, wrap}
 use Rattle.meaning.specs.Interval.{one, two, far}
-use Rattle.meaning.proofs.Machine.{rd}
-use Rattle.meaning.proofs.Spread.{spread-whole, spread-one, spread-middle, spread-two}
+use Rattle.laws.proofs.Machine.{rd}
+use Rattle.laws.proofs.Spread.{spread-whole, spread-one, spread-middle, spread-two}
 use Rattle.wide.specs.Exact.{held}
 use Rattle.wide.proofs.Words.{is-held, in-order, is-lit, window-held, end-held}
 use Rattle.wide.proofs.Order.{next}

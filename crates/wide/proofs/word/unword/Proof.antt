@@ -6,8 +6,8 @@ use lib.IntN.{pos, _+ℤ_}
 use mir.Syntax.{w64}
 use mir.Val.{SFits}
 use Rattle.meaning.specs.Number.{MIN}
-use Rattle.meaning.proofs.Integers.{zarith, add-parts}
-use Rattle.meaning.proofs.Machine.{rd, num, lit, add-ok, add-of}
+use Rattle.laws.proofs.Integers.{zarith, add-parts}
+use Rattle.laws.proofs.Machine.{rd, num, lit, add-ok, add-of}
 use Rattle.wide.proofs.word.unword.Statement.{statement}
 use Rattle.wide.proofs.word.unword.Tie as tie
 

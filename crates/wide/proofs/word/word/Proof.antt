@@ -5,8 +5,8 @@ use mir.Syntax.{w64}
 use mir.Val.{SFits}
 use Prim.Native.Nat.{_^_}
 use Rattle.meaning.specs.Number.{MIN}
-use Rattle.meaning.proofs.Integers.{zarith, add-parts}
-use Rattle.meaning.proofs.Machine.{num, lit, sub-ok, sub-of, cast-ok, cast-is}
+use Rattle.laws.proofs.Integers.{zarith, add-parts}
+use Rattle.laws.proofs.Machine.{num, lit, sub-ok, sub-of, cast-ok, cast-is}
 use Rattle.wide.proofs.word.word.Statement.{statement}
 use Rattle.wide.proofs.word.word.Tie as tie
 
