@@ -88,7 +88,9 @@ juwenfo_answer juwenfo_set_mul(const int64_t *left, size_t left_len, bool flag, 
 juwenfo_answer juwenfo_set_div(const int64_t *left, size_t left_len, bool flag, const int64_t *right, size_t right_len, int64_t *work, size_t work_len, int64_t *out, size_t out_len);
 juwenfo_answer juwenfo_set_rem(const int64_t *left, size_t left_len, bool flag, const int64_t *right, size_t right_len, int64_t *work, size_t work_len, int64_t *out, size_t out_len);
 
-/* No work is needed, so never 3; the flag of the answer is false. not, and, or, le, lt and ne give a set of 0 and 1000: at most 4 numbers. */
+/* No work is needed, so never 3; the flag of the answer is false. not, and, or, le, lt and ne give a set of 0 and 1000: at most 4 numbers.
+ * Of an empty set not, le and lt give the empty set, and ne gives 1000. and with an empty set gives 0 if the other set holds 0, else the empty set; or gives 1000
+ * if the other set holds a number that is not 0, else the empty set. */
 juwenfo_answer juwenfo_set_not(const int64_t *left, size_t left_len, int64_t *out, size_t out_len);
 juwenfo_answer juwenfo_set_and(const int64_t *left, size_t left_len, const int64_t *right, size_t right_len, int64_t *out, size_t out_len);
 juwenfo_answer juwenfo_set_or(const int64_t *left, size_t left_len, const int64_t *right, size_t right_len, int64_t *out, size_t out_len);

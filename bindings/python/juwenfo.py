@@ -15,7 +15,7 @@ import os
 
 MIN, MAX, ONE = -(1 << 63), (1 << 63) - 1, 1000
 REGISTERS, SLOT, WORK = 16, 33, 8192
-LISTING = 11081  # bytes of the longest listing
+LISTING = 11081  # bytes that hold any listing
 
 
 class Refused(Exception):

@@ -14,7 +14,7 @@ pub const SLOT: usize = 33;
 pub const WORK: usize = 8192;
 /// Numbers that the run needs, one a register.
 pub const LENT: usize = 16;
-/// Bytes of the longest listing.
+/// Bytes that hold any listing.
 pub const LISTING: usize = 11081;
 
 /// A refusal (3, 5 to 9) or a finding (20 to 22), and its line; the line is 0 for 3 and 5.

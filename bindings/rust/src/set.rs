@@ -1,5 +1,5 @@
 //! Set operations. A set is the ends of its intervals, start and end in turn; it is normal if every start is at most its end and at least one number
-//! is missing between neighbours. Each call writes the joined results of all pairs of intervals to `out`.
+//! is missing between neighbours. Each call writes its answer, again a normal set, to `out`.
 //!
 //! Refusals, in this order: 2 and 1 of the left set, 2 and 1 of the right set, 3 (`work` is shorter than [`need`]), 4 (`out` is shorter than the answer).
 //! After 1, 2 and 3 every slice is as lent; after 4 `out` is; what stands behind the answer, or behind the need, is never written.

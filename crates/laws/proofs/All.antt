@@ -22,12 +22,6 @@ module _ {A : Type 0} (P : A → Type 0) where
   all-get (x ∷ l) zero d h p = p .0
   all-get (x ∷ l) (suc i) d h p = all-get l i d h (p .1)
 
-  -- a place before the end
-  pub all-at : (l : List A) (i : ℕ) (d : A) → i < length l → All P l → P (getD l i d)
-  all-at [] i d h p = absurd (let x : ⊥ = omega arith in x)
-  all-at (x ∷ l) zero d h p = p .0
-  all-at (x ∷ l) (suc i) d h p = all-at l i d (le-of-suc-le-suc h) (p .1)
-
   pub all-set : (l : List A) (i : ℕ) (a : A) → P a → All P l → All P (set l i a)
   all-set [] i a h p = tt
   all-set (x ∷ l) zero a h p = (h, p .1)

@@ -90,9 +90,3 @@ pub flat-append : (a b : Set) → flat (a ++ b) ≡ flat a ++ flat b
 unfolding flat
 flat-append [] b = refl
 flat-append (i ∷ a) b = ap (λ (r : List ℤ). i .lo ∷ i .hi ∷ r) (flat-append a b)
-
-pub intervals-append : (a b : List ℤ) → length a % 2 ≡ 0 → intervals (a ++ b) ≡ intervals a ++ intervals b
-unfolding intervals
-intervals-append [] b h = refl
-intervals-append (s ∷ []) b h = absurd (omega arith)
-intervals-append (s ∷ e ∷ r) b h = ap (λ (t : Set). record { lo = s; hi = e } ∷ t) (intervals-append r b (omega arith))

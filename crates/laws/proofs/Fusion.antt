@@ -1,5 +1,5 @@
--- To read a form and then fold it is to fold while reading (`fuse-arg`, `fuse-form`), and a relation that literals, registers and operations keep holds between what two
--- algebras make of one text (`rel-arg`, `rel-form`). Both go by the brackets left. Assumes nothing.
+-- To read a form and then fold it is to fold while reading (`fuse-arg`), and a relation that literals, registers and operations keep holds between what two
+-- algebras make of one text (`rel-arg`). Both go by the brackets left. Assumes nothing.
 use mathlib.Core.Path.{_≡_, refl, ap, _∙_, subst}
 use mathlib.Core.List.{List}
 use mathlib.Core.Bool.{Bool, true, false, cond, _||_}
@@ -99,10 +99,6 @@ module _ {A B : Type 0} (f : A → B) (α : Algebra A) (β : Algebra B)
       fuse-arg-with (formWith α (λ t. arg α d t)) (formWith β (λ t. arg β d t))
       (λ t. fuse-head (λ u. arg α d u) (λ u. arg β d u) (λ u. fuse-arg d u) t (start t) (head t)) s
 
-  pub fuse-form : (d : ℕ) (s : List ℕ) → mapGot f (form α d s) ≡ form β d s
-  unfolding form
-  fuse-form d s = fuse-head (λ u. arg α d u) (λ u. arg β d u) (λ u. fuse-arg d u) s (start s) (head s)
-
 -- ---- a relation
 
 -- both read, with related values over as many bytes, or neither
@@ -176,7 +172,7 @@ module _ {A B : Type 0} (R : A → B → Type 0) (α : Algebra A) (β : Algebra 
       rel-arg-with (formWith α (λ t. arg α d t)) (formWith β (λ t. arg β d t))
       (λ t. rel-head (λ u. arg α d u) (λ u. arg β d u) (λ u. rel-arg d u) t (start t) (head t)) s
 
--- ---- the folds of a form, as algebras: whether a literal is beyond MIN..MAX, its value, its set
+-- ---- whether a literal is beyond MIN..MAX, as a fold of a form
 
 abbrev pub farAlgebra : Algebra Bool
 farAlgebra = record { onLit = beyond; onReg = λ r. false; on1 = λ o a. a; on2 = λ o a b. a || b }
@@ -184,27 +180,3 @@ farAlgebra = record { onLit = beyond; onReg = λ r. false; on1 = λ o a. a; on2 
 pub far-arg : (d : ℕ) (s : List ℕ) → mapGot farForm (arg tree d s) ≡ arg farAlgebra d s
 unfolding farForm
 far-arg = fuse-arg farForm tree farAlgebra (λ z. refl) (λ r. refl) (λ o a. refl) (λ o a b. refl)
-
-abbrev pub valueAlgebra : List ℤ → Algebra (Res ℤ)
-valueAlgebra s = record {
-  onLit = ok;
-  onReg = λ r. ok (getD s r (pos 0));
-  on1 = λ o a. bind a (λ x. ok (point1 o x));
-  on2 = λ o a b. bind a (λ x. bind b (λ y. orStop zeroDivisor (point2 o x y)));
-}
-
-abbrev pub setAlgebra : ℕ → List Set → Algebra (Res Set)
-setAlgebra limit S = record {
-  onLit = λ z. ok (only z);
-  onReg = λ r. ok (at S r);
-  on1 = λ o a. bind a (λ x. settle limit (set1 o x) (flag1 o false));
-  on2 = λ o a b. bind a (λ x. bind b (λ y. settle limit (set2 o x y) (flag2 o false x y)));
-}
-
-pub set-arg : (limit : ℕ) (S : List Set) (d : ℕ) (s : List ℕ) → mapGot (setOf limit S) (arg tree d s) ≡ arg (setAlgebra limit S) d s
-unfolding setOf
-set-arg limit S = fuse-arg (setOf limit S) tree (setAlgebra limit S) (λ z. refl) (λ r. refl) (λ o a. refl) (λ o a b. refl)
-
-pub set-form : (limit : ℕ) (S : List Set) (d : ℕ) (s : List ℕ) → mapGot (setOf limit S) (form tree d s) ≡ form (setAlgebra limit S) d s
-unfolding setOf
-set-form limit S = fuse-form (setOf limit S) tree (setAlgebra limit S) (λ z. refl) (λ r. refl) (λ o a. refl) (λ o a b. refl)

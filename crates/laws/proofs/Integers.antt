@@ -33,10 +33,6 @@ pub is-true : (t : Bool) → T t → t ≡ true
 is-true true h = refl
 is-true false h = absurd h
 
-pub is-false : (t : Bool) → (T t → ⊥) → t ≡ false
-is-false true h = absurd (h tt)
-is-false false h = refl
-
 pub true-T : {t : Bool} → t ≡ true → T t
 true-T e = subst T (sym e) tt
 

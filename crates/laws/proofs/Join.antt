@@ -140,20 +140,6 @@ unfolding rebuild
 rebuild-in [] p m = m
 rebuild-in (i ∷ l) p m = ⊎-elim (λ k. here k) (λ k. there (rebuild-in l (p .1) k)) (insert-in (i .lo) (i .hi) (rebuild l) m)
 
-insert-length : (a b : ℤ) (s : Set) → length (insert a b s) ≤ suc (length s)
-unfolding insert
-insert-length a b [] = omega arith
-insert-length a b (i ∷ s) =
-    insert-case (λ l. length l ≤ suc (suc (length s))) a b i s
-    (λ _. omega (arith, insert-length a b s))
-    (λ _ _. omega arith)
-    (λ _ _. omega (arith, insert-length (smaller a (i .lo)) (larger b (i .hi)) s))
-
-pub rebuild-length : (l : List Interval) → length (rebuild l) ≤ length l
-unfolding rebuild
-rebuild-length [] = omega arith
-rebuild-length (i ∷ l) = omega (arith, insert-length (i .lo) (i .hi) (rebuild l), rebuild-length l)
-
 -- ---- a normal set is fixed by its members
 
 -- each member of a is a member of b

@@ -27,11 +27,6 @@ module _ {ℓ} {A : Type ℓ} where
   unfolding over
   take-over xs old = take-append-seam xs (drop (length xs) old)
 
-  -- a place in what is written
-  pub over-first : (xs old : List A) (i : ℕ) (d : A) → i < length xs → getD (over xs old) i d ≡ getD xs i d
-  unfolding over
-  over-first xs old i d h = List·getD-append xs (drop (length xs) old) d i h
-
   -- untouched beyond
   pub drop-over : (xs old : List A) (j : ℕ) → length xs ≤ j → drop j (over xs old) ≡ drop j old
   unfolding over
@@ -70,11 +65,6 @@ module _ {ℓ} {A : Type ℓ} where
   -- loops that fill and that copy
   pub over-fill : (old : List A) (a : A) (i : ℕ) → i < length old → set (over (replicate i a) old) i a ≡ over (replicate (i + 1) a) old
   over-fill old a i h = over-store-at (replicate i a) old a i (length-replicate i a) h ∙ ap (λ (l : List A). over l old) (replicate-append-replicate i 1 a)
-
-  pub slice-snoc : (s : List A) (f t : ℕ) (d : A) → f ≤ t → t < length s → slice f t s ++ getD s t d ∷ [] ≡ slice f (t + 1) s
-  slice-snoc s f t d h k =
-      let e = length-take-le t s (omega arith) in
-      sym (ap (drop f) (rw add-one (take-suc s t d k)) ∙ drop-append-le f (take t s) (getD s t d ∷ []) (omega arith))
 
   pub over-take : (old s : List A) (i : ℕ) (d : A) → i < length old → i < length s → set (over (take i s) old) i (getD s i d) ≡ over (take (i + 1) s) old
   over-take old s i d h k =

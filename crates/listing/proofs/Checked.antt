@@ -1,23 +1,18 @@
--- What the check's contract tells the listing: slices of 528 and 8192 numbers are long enough, so the answer is the verdict of the text. Assumes nothing.
+-- What the check's contract tells the listing: slices of 528 and 8192 numbers are long enough, so the answer is that of the text. Assumes nothing.
 use lib.IntN.{ℤ}
 use lib.ListN.{length}
-use mathlib.Core.Path.{_≡_, sym, ap, _∙_}
+use mathlib.Core.Path.{_≡_, ap, _∙_}
 use mathlib.Core.List.{List}
 use Prim.Native.Nat.{ℕ}
 use native.Mathlib.Omega.{arith}
-use Rattle.meaning.specs.Run.{Verdict, verdict}
-use Rattle.meaning.specs.Check.{setsNeed, workNeed, setsLeftBy, checkCall, checkSets}
+use Rattle.meaning.specs.Check.{setsNeed, workNeed, setsLeftBy, checkSets}
 use Rattle.laws.proofs.Demand3Calls.{check-call}
+use Rattle.sheet_check.specs.Answer.{answerFor, Called}
+use Rattle.sheet_check.specs.declared.Answer.{Answer}
 use Rattle.listing.specs.Told.{Told}
 
-pub told-by : (t : List ℕ) (sets work : List ℤ) {l : List ℤ} {v : Verdict} {number line count : ℕ} → length sets ≡ setsNeed → length work ≡ workNeed
-    → v ≡ verdict (checkCall t sets work) → l ≡ checkSets t sets work → number ≡ v .number → line ≡ v .line → count ≡ v .count → Told t l number line count
+pub told-by : (t : List ℕ) (sets work : List ℤ) {a : Answer} {sets′ work′ : List ℤ} → length sets ≡ setsNeed → length work ≡ workNeed → Called t sets work a sets′ work′ → Told t sets′ a
 unfolding checkSets
-told-by t sets work s w e d a b c =
+told-by t sets work s w c =
     let k = check-call t sets work (record { sets-long = omega arith; work-long = omega arith }) in
-    record {
-      lent = sets;
-      size = s;
-      gave = ap verdict (sym k) ∙ sym e ∙ (λ i. record { number = sym a i; line = sym b i; count = sym c i });
-      left = d ∙ ap (setsLeftBy sets) k;
-    }
+    record { lent = sets; size = s; gave = c .answer-is ∙ ap answerFor k; left = c .sets-left ∙ ap (setsLeftBy sets) k }

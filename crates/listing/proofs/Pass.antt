@@ -13,7 +13,7 @@ use Rattle.meaning.specs.Interval.{only}
 use Rattle.meaning.specs.NumberIntervals.{Set}
 use Rattle.meaning.specs.Sheet.{registers, Line}
 use Rattle.meaning.specs.Text.{Read, sheet, noSheet, read}
-use Rattle.meaning.specs.Run.{worked, judge, Verdict, verdict}
+use Rattle.meaning.specs.Run.{worked, judge}
 use Rattle.meaning.specs.Check.{Bands, at, setIn, layout, shipLimit, check, checkText}
 use Rattle.meaning.specs.Listing.{troubleLine, registerLine, registerLines, listed, passLine, outcomeText, readText, listing}
 use Rattle.laws.proofs.Work.{judge-worked}
@@ -24,7 +24,7 @@ use Rattle.meaning.specs.Check.{slotSize, slot, countIn, setsNeed, setsLeftBy}
 use Rattle.meaning.specs.CheckSets.{SoundBands}
 use Rattle.laws.proofs.Over.{length-over}
 use Rattle.laws.proofs.Slots.{Short, length-slot, length-shown, sound-short}
-use Rattle.laws.proofs.Troubles.{zero-passes}
+use Rattle.laws.proofs.Integers.{never}
 use lib.ListN.{drop}
 use lib.Seq.{getD-append-add}
 use mathlib.Core.List.{append-assoc}
@@ -32,6 +32,11 @@ use Prim.Native.Nat.{_*_}
 use Rattle.listing.specs.Told.{Told}
 use Rattle.listing.specs.Texts.{markedLine, markedLines, Counted}
 use Rattle.sheet.specs.Judging.{IsSheet}
+use Rattle.sheet_check.specs.Answer.{verdictOf, answerFor}
+use Rattle.sheet_check.specs.Working.{isPass}
+use Rattle.sheet_check.specs.declared.Answer.{Answer}
+use Rattle.sheet_check.specs.declared.Answer.the-variants as answer
+use Rattle.sheet_check.proofs.Walking.{answer-verdict, pass-done}
 use Rattle.listing.specs.Marks.{marksAfter}
 use Rattle.listing.proofs.Marks.{marks-listed}
 
@@ -101,34 +106,41 @@ pub record Passing (t : List ℕ) (l : List ℤ) (n : ℕ) : Type 0 where
   pub few : Counted l
   pub text : passLine n ++ markedLines (marksAfter t n) l 0 registers ≡ listing t
 
-module _ {t : List ℕ} {l : List ℤ} {number line count : ℕ} (k : Told t l number line count) where
-  pub told-pass : number ≡ 0 → Passing t l count
-  told-pass z =
-      let p = zero-passes shipLimit t (ap (λ (v : Verdict). v .number) (k .gave) ∙ z) in
-      let B = p .1 in
-      let e : checkText shipLimit t ≡ worked (p .0) (done B) = p .2 in
-      let c : p .0 ≡ count = ap (λ (v : Verdict). v .count) (ap verdict (sym e) ∙ k .gave) in
+module _ {t : List ℕ} {l : List ℤ} {a : Answer} (k : Told t l a) where
+  pub told-pass : {n : ℕ} → a ≡ answer.Pass n → Passing t l n
+  told-pass {n} z =
+      let p = pass-done (checkText shipLimit t) (sym z ∙ k .gave) in
+      let B = p .0 in
+      let e = p .1 in
       let left : l ≡ over (layout (B .sets)) (k .lent) = k .left ∙ ap (setsLeftBy (k .lent)) e in
       let size = length-shown (passed-sound shipLimit t (omega arith) e) in
-      subst (λ (n : ℕ). Passing t l n) c
-      (subst (λ (x : List ℤ). Passing t x (p .0)) (sym left)
+      subst (λ (x : List ℤ). Passing t x n) (sym left)
       (record {
         sheet = sheet-of t e;
         long = length-over (layout (B .sets)) (k .lent) (omega (arith, size, k .size)) ∙ k .size;
         few = counted t e (k .lent);
         text = pass-text t e (k .lent);
-      }))
+      })
 
-  pub told-trouble : (number ≡ 0 → ⊥) → troubleLine number line ≡ listing t
+  -- the number and line of anything but a pass
+  pub told-trouble : isPass a ≡ false → troubleLine (verdictOf a .number) (verdictOf a .line) ≡ listing t
   unfolding checkText listing readText outcomeText
   told-trouble z = go (read t) refl
     where
-      inner : (ls : List Line) (o : Outcome Bands) → verdict (worked (length ls) o) ≡ record { number = number; line = line; count = count } → troubleLine number line ≡ outcomeText ls o
-      inner ls (done B) e = absurd (z (sym (ap (λ (v : Verdict). v .number) e)))
-      inner ls (stopped a b B) e = sym (λ i. troubleLine (e i .number) (e i .line))
+      inner : (ls : List Line) (o : Outcome Bands) → a ≡ answerFor (worked (length ls) o) → troubleLine (verdictOf a .number) (verdictOf a .line) ≡ outcomeText ls o
+      inner ls (done B) e = never (sym (ap isPass e) ∙ z)
+      inner ls (stopped i j B) e =
+          let v = ap verdictOf e ∙ answer-verdict (worked (length ls) (stopped i j B)) in
+          (λ x. troubleLine (v x .number) (v x .line))
 
-      go : (x : Read) → read t ≡ x → troubleLine number line ≡ readText (read t)
-      go (sheet ls) e = inner ls (check shipLimit ls) (sym (ap (λ (x : Read). verdict (judge (check shipLimit) x)) e) ∙ k .gave) ∙ sym (ap readText e)
-      go (noSheet a b) e =
-          let g = sym (ap (λ (x : Read). verdict (judge (check shipLimit) x)) e) ∙ k .gave in
-          sym (λ i. troubleLine (g i .number) (g i .line)) ∙ sym (ap readText e)
+      go : (x : Read) → read t ≡ x → troubleLine (verdictOf a .number) (verdictOf a .line) ≡ readText (read t)
+      go (sheet ls) e = inner ls (check shipLimit ls) (k .gave ∙ ap (λ (x : Read). answerFor (judge (check shipLimit) x)) e) ∙ sym (ap readText e)
+      go (noSheet i j) e =
+          let v = ap verdictOf (k .gave ∙ ap (λ (x : Read). answerFor (judge (check shipLimit) x)) e) in
+          (λ x. troubleLine (v x .number) (v x .line)) ∙ sym (ap readText e)
+
+  pub told-finding : {i j : ℕ} → a ≡ answer.Finding i j → troubleLine i j ≡ listing t
+  told-finding e = sym (ap (λ (x : Answer). troubleLine (verdictOf x .number) (verdictOf x .line)) e) ∙ told-trouble (ap isPass e)
+
+  pub told-refused : {i j : ℕ} → a ≡ answer.Refused i j → troubleLine i j ≡ listing t
+  told-refused e = sym (ap (λ (x : Answer). troubleLine (verdictOf x .number) (verdictOf x .line)) e) ∙ told-trouble (ap isPass e)

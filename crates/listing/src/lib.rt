@@ -10,7 +10,6 @@ ghost use Rattle.meaning.specs.Check.{slotSize, countIn, setsNeed};
 ghost use Rattle.meaning.specs.Listing.{passLine, listing};
 ghost use Rattle.decimal.specs.Written.{Written};
 ghost use Rattle.sheet.specs.Judging.{IsSheet};
-ghost use Rattle.sheet_check.specs.Answer.{verdictOf};
 ghost use Rattle.meaning.specs.Reading.{readLine};
 ghost use Rattle.listing.specs.Marks.{markLine, marksAfter, Readable};
 ghost use Rattle.listing.specs.Longest.{longest};
@@ -121,15 +120,15 @@ fn passed(out: &mut [u8], text: &[u8], sets: &[i64], n: usize) -> usize
     at + marked_lines(&mut out[at..], &marks, sets, 0)
 }
 
-// The listing by what the check said: number 0 is a pass.
-fn told(out: &mut [u8], text: &[u8], sets: &[i64], number: u8, at: usize, count: usize) -> usize
-    requires { ⌜ Told (now text) (now sets) number at count × (longest ≤ length (now out)) ⌝ }
+// The listing by what the check answered.
+fn told(out: &mut [u8], text: &[u8], sets: &[i64], a: Answer) -> usize
+    requires { ⌜ Told (now text) (now sets) a × (longest ≤ length (now out)) ⌝ }
     ensures { λ r. ⌜ Written r (listing (now (text .entry))) (now (out .exit)) (now (out .entry)) ⌝ }
 {
-    if number == 0 {
-        passed(out, text, sets, count)
-    } else {
-        trouble_line(out, number, at)
+    match a {
+        Answer::Pass(n) => passed(out, text, sets, n),
+        Answer::Finding(k, l) => trouble_line(out, k, l),
+        Answer::Refused(k, l) => trouble_line(out, k, l),
     }
 }
 
@@ -144,39 +143,6 @@ fn hand_over(out: &mut [u8], from: &[u8]) -> Listed
     Listed::Written(decimal::copy_bytes(out, from))
 }
 
-// The number of what the check met, 0 for a pass.
-fn number_of(a: Answer) -> u8
-    ensures { λ r. ⌜ r ≡ verdictOf a .number ⌝ }
-{
-    match a {
-        Answer::Pass(_) => 0,
-        Answer::Finding(k, _) => k,
-        Answer::Refused(k, _) => k,
-    }
-}
-
-// The line of what the check met, 0 for a pass.
-fn line_of(a: Answer) -> usize
-    ensures { λ r. ⌜ r ≡ verdictOf a .line ⌝ }
-{
-    match a {
-        Answer::Pass(_) => 0,
-        Answer::Finding(_, l) => l,
-        Answer::Refused(_, l) => l,
-    }
-}
-
-// How many lines a pass has.
-fn count_of(a: Answer) -> usize
-    ensures { λ r. ⌜ r ≡ verdictOf a .count ⌝ }
-{
-    match a {
-        Answer::Pass(n) => n,
-        Answer::Finding(_, _) => 0,
-        Answer::Refused(_, _) => 0,
-    }
-}
-
 // The listing of a text, written into a buffer that is long enough for any.
 fn list_into(buffer: &mut [u8], text: &[u8]) -> usize
     requires { ⌜ longest ≤ length (now buffer) ⌝ }
@@ -185,7 +151,7 @@ fn list_into(buffer: &mut [u8], text: &[u8]) -> usize
     let mut sets = [0i64; 528];
     let mut work = [0i64; 8192];
     let a = check(text, &mut sets, &mut work);
-    told(buffer, text, &sets, number_of(a), line_of(a), count_of(a))
+    told(buffer, text, &sets, a)
 }
 
 // The whole listing of any text at the front of out; if it does not fit, out is as it was lent.

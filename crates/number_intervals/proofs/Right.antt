@@ -49,7 +49,7 @@ module _ (o : Op1) (left : List ℤ) (flag : Bool) (out work : List ℤ) {r : Re
           returns = p;
           writes = e .1;
           clears = e .2;
-          right = λ n. carried (λ t l. Call1 o left flag t l) p (e .1) n (demand2-calls .call1 o left flag out work (ranged (h n)));
+          demand2 = λ n. carried (λ t l. Call1 o left flag t l) p (e .1) n (demand2-calls .call1 o left flag out work (ranged (h n)));
         },
         cased (e .0) p,
       )
@@ -63,7 +63,7 @@ module _ (o : Op2) (left : List ℤ) (flag : Bool) (right out work : List ℤ) {
           returns = p;
           writes = e .1;
           clears = e .2;
-          right = λ n. carried (λ t l. Call2 o left flag right t l) p (e .1) n (demand2-calls .call2 o left flag right out work (ranged (h n .0)) (ranged (h n .1)));
+          demand2 = λ n. carried (λ t l. Call2 o left flag right t l) p (e .1) n (demand2-calls .call2 o left flag right out work (ranged (h n .0)) (ranged (h n .1)));
         },
         cased (e .0) p,
       )
@@ -77,7 +77,7 @@ module _ (o : Op1) (left out : List ℤ) {r : Reply} {a : List ℤ} where
         record {
           returns = p;
           writes = e .1;
-          right = λ n. carried (λ t l. Call1 o left false t l) p (e .1) n (demand2-calls .call1 o left false out [] (ranged (h n)));
+          demand2 = λ n. carried (λ t l. Call1 o left false t l) p (e .1) n (demand2-calls .call1 o left false out [] (ranged (h n)));
         },
         cased (e .0) p,
       )
@@ -90,7 +90,7 @@ module _ (o : Op2) (left right out : List ℤ) {r : Reply} {a : List ℤ} where
         record {
           returns = p;
           writes = e .1;
-          right = λ n. carried (λ t l. Call2 o left false right t l) p (e .1) n (demand2-calls .call2 o left false right out [] (ranged (h n .0)) (ranged (h n .1)));
+          demand2 = λ n. carried (λ t l. Call2 o left false right t l) p (e .1) n (demand2-calls .call2 o left false right out [] (ranged (h n .0)) (ranged (h n .1)));
         },
         cased (e .0) p,
       )
@@ -102,7 +102,7 @@ module _ (left right out : List ℤ) {r : Reply} {a : List ℤ} where
         record {
           returns = p;
           writes = e .1;
-          right = λ n. carried (λ t l. CallJust (λ z. (z ∈ intervals left) ⊎ (z ∈ intervals right)) left right t l) p (e .1) n
+          demand2 = λ n. carried (λ t l. CallJust (λ z. (z ∈ intervals left) ⊎ (z ∈ intervals right)) left right t l) p (e .1) n
               (demand2-calls .union-call left right out (ranged (h n .0)) (ranged (h n .1)));
         },
         cased (e .0) p,
@@ -114,7 +114,7 @@ module _ (left right out : List ℤ) {r : Reply} {a : List ℤ} where
         record {
           returns = p;
           writes = e .1;
-          right = λ n. carried (λ t l. CallJust (λ z. (z ∈ intervals left) × (z ∈ intervals right)) left right t l) p (e .1) n
+          demand2 = λ n. carried (λ t l. CallJust (λ z. (z ∈ intervals left) × (z ∈ intervals right)) left right t l) p (e .1) n
               (demand2-calls .intersect-call left right out (ranged (h n .0)) (ranged (h n .1)));
         },
         cased (e .0) p,

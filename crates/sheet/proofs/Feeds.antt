@@ -87,10 +87,6 @@ no-line (b ∷ s) h =
     (λ e. absurd (let k = feed-none b s e in omega arith))
     (λ e. split-byte b s e ∙ ap (λ (x : Split). front b (x .lines) (x .rest)) (no-line s (let k = feed-byte b s e in omega arith)))
 
-no-lines : lines [] ≡ []
-unfolding splitLines
-no-lines = refl
-
 drop-none : (k : ℕ) → _≡_ {A = List (List ℕ)} (drop k []) []
 drop-none k = drop-of-length-le [] {i = k} (omega arith)
 

@@ -12,22 +12,14 @@ use Rattle.meaning.specs.Run.{Judged, refused, worked}
 use Rattle.meaning.specs.Check.{Bands, shipLimit, checkCall, setIn}
 use Rattle.meaning.specs.Demand3.{SafeAt}
 use Rattle.meaning.specs.Demand3Calls.{CallsSafeAt}
-use Rattle.laws.proofs.Integers.{never}
 use Rattle.laws.proofs.Demand3.{demand3 as safety}
 use Rattle.laws.proofs.Demand3Calls.{demand3-calls}
 use Rattle.run.specs.Answer.{answerFor as runAnswerFor}
 use Rattle.run.proofs.Steps.{call-text}
 use Rattle.sheet_check.specs.Answer.{answerFor}
-use Rattle.sheet_check.specs.Working.{isPass}
 use Rattle.sheet_check.specs.Demand3.{SafeAfter, Demand3}
-use Rattle.sheet_check.proofs.Walking.{trouble-no-pass, long-call}
+use Rattle.sheet_check.proofs.Walking.{pass-done, long-call}
 use Rattle.sheet_check.specs.declared.Answer.the-variants as answer
-
--- a call that passes is done with every line
-pass-done : (x : Judged Bands) {n : ℕ} → answer.Pass n ≡ answerFor x → (B : Bands) × (x ≡ worked n (done B))
-pass-done (refused k l) e = never (ap isPass e)
-pass-done (worked m (done B)) {n} e = let d : m ≡ n = cc in (B, ap (λ (i : ℕ). worked i (done B)) d)
-pass-done (worked m (stopped k l B)) e = never (ap isPass e ∙ trouble-no-pass k l)
 
 after : (lent : List ℤ) (t : List ℕ) (ls xs : List Line) (m : ℕ) → registers ≤ length lent → CallsSafeAt lent t ls m → SafeAt shipLimit lent t xs m → SafeAfter lent t ls m
 after lent t ls xs m k a s = record {

@@ -49,10 +49,17 @@ trouble-verdict : (k l : ℕ) → verdictOf (troubleOf k l) ≡ record { number 
 unfolding troubleOf
 trouble-verdict k l = by-test (leb 20 k) (λ e. rw e) (λ e. rw e)
 
-answer-verdict : (x : Judged Bands) → verdictOf (answerFor x) ≡ verdict x
+-- what the answer says is the verdict
+pub answer-verdict : (x : Judged Bands) → verdictOf (answerFor x) ≡ verdict x
 answer-verdict (refused k l) = refl
 answer-verdict (worked n (done B)) = refl
 answer-verdict (worked n (stopped k l B)) = trouble-verdict k l
+
+-- a call that passes is done with every line
+pub pass-done : (x : Judged Bands) {n : ℕ} → answer.Pass n ≡ answerFor x → (B : Bands) × (x ≡ worked n (done B))
+pass-done (refused k l) e = never (ap isPass e)
+pass-done (worked m (done B)) {n} e = let d : m ≡ n = cc in (B, ap (λ (i : ℕ). worked i (done B)) d)
+pass-done (worked m (stopped k l B)) e = never (ap isPass e ∙ trouble-no-pass k l)
 
 pub enough : 1 ≤ shipLimit
 enough = omega arith

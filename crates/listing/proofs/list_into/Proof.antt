@@ -18,20 +18,10 @@ check-requires c κs = search needs
 slice-aggregate-told : tie.Need-slice-aggregate-told
 slice-aggregate-told c = search needs
 
-number-of-requires : tie.Need-number-of-requires
-number-of-requires c κs = search needs
-
-line-of-requires : tie.Need-line-of-requires
-line-of-requires c κs = search needs
-
-count-of-requires : tie.Need-count-of-requires
-count-of-requires c κs = search needs
-
 told-requires : tie.Need-told-requires
 told-requires c κs =
-    let s = c .before .before .before .before .before .before .before .before .before .before .before .before in
-    let k = c .before .before .before .before .before .before .before .check .ensures in
-    (told-by (s .args .text .now) (replicate 528 (pos 0)) (replicate 8192 (pos 0)) (length-replicate 528 (pos 0)) (length-replicate 8192 (pos 0)) (k .verdict-is) (k .sets-left) (c .before .before .number-of .ensures) (c .before .line-of .ensures) (c .count-of .ensures), s .pre)
+    let s = c .before .before .before .before .before .before .before .before .before in
+    (told-by (s .args .text .now) (replicate 528 (pos 0)) (replicate 8192 (pos 0)) (length-replicate 528 (pos 0)) (length-replicate 8192 (pos 0)) (c .before .before .before .before .check .ensures), s .pre)
 
 same-length : tie.Need-same-length
 same-length c = search needs
@@ -47,9 +37,6 @@ list-into-spec =
     slice-aggregate-check-2
     check-requires
     slice-aggregate-told
-    number-of-requires
-    line-of-requires
-    count-of-requires
     told-requires
     same-length
     returns)

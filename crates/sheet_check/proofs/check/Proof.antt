@@ -33,7 +33,7 @@ returns-3 : tie.Need-returns-3
 returns-3 c = let e = c .before .before .check-sheet .ensures in called-worked (c .before .before .before .before .before .before .before .before .before .before .before .before .args .text .now) (c .before .before .before .before .before .before .before .before .before .before .before .before .args .sets .now) (c .before .before .before .before .before .before .before .before .before .before .before .before .args .work .now) (c .before .before .before .before .before .before .before .before .before .before .if1 .left) (c .before .before .before .before .before .before .before .before .before .if2 .left) (c .before .before .before .before .before .before .before .before .judge-text .ensures .answer-is) (e .0) (e .1 .0) (e .1 .1)
 
 returns-4 : tie.Need-returns-4
-returns-4 c = called-refused (c .before .before .before .before .before .before .before .before .args .text .now) (c .before .before .before .before .before .before .before .before .args .sets .now) (c .before .before .before .before .before .before .before .before .args .work .now) (c .before .before .before .before .before .before .if1 .left) (c .before .before .before .before .before .if2 .left) (c .before .before .before .before .judge-text .ensures .answer-is) (c .before .before .k .given .1) (c .trouble .ensures)
+returns-4 c = called-refused (c .before .before .before .before .before .before .before .args .text .now) (c .before .before .before .before .before .before .before .args .sets .now) (c .before .before .before .before .before .before .before .args .work .now) (c .before .before .before .before .before .if1 .left) (c .before .before .before .before .if2 .left) (c .before .before .before .judge-text .ensures .answer-is) (c .before .k .given .1)
 
 pub check-spec : {M : Type 1} → statement M
 check-spec = tie.close (tie.spec returns returns-2 judge-text-requires enum-known-n check-sheet-requires enum-known-k same-length same-length-2 returns-3 returns-4)
