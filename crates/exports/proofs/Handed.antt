@@ -10,7 +10,7 @@ use mir.Val.{SFits}
 use mir.Facts.{toZ-ofZ}
 use Rattle.meaning.specs.Number.{Op1, Op2}
 use Rattle.meaning.specs.SetCalls.{Returned}
-use Rattle.meaning.specs.Demand2Calls.{Right1, Right2, RightUnion, RightIntersect}
+use Rattle.meaning.specs.Contracts.{Works1, Works2, Gives1, Gives2, Unites, Meets}
 use Rattle.laws.proofs.Machine.{rd, ok}
 
 -- an answer of any type
@@ -31,14 +31,20 @@ module _ {x r : ℤ} (g : SFits w64 x) (k : mag r < 2 ^ 63) where
 
 -- what holds of the library's reply holds of the struct that says the same
 module _ {x y : Returned} (e : y ≡ x) where
-  pub told1 : {o : Op1} {left : List ℤ} {flag : Bool} {out : List ℤ} → Right1 o left flag x out → Right1 o left flag y out
-  told1 {o} {left} {flag} {out} h = subst (λ (t : Returned). Right1 o left flag t out) (sym e) h
+  pub works1 : {o : Op1} {left : List ℤ} {flag : Bool} {out work out′ work′ : List ℤ} → Works1 o left flag out work x out′ work′ → Works1 o left flag out work y out′ work′
+  works1 {o} {left} {flag} {out} {work} {out′} {work′} h = subst (λ (t : Returned). Works1 o left flag out work t out′ work′) (sym e) h
 
-  pub told2 : {o : Op2} {left : List ℤ} {flag : Bool} {right out : List ℤ} → Right2 o left flag right x out → Right2 o left flag right y out
-  told2 {o} {left} {flag} {right} {out} h = subst (λ (t : Returned). Right2 o left flag right t out) (sym e) h
+  pub works2 : {o : Op2} {left : List ℤ} {flag : Bool} {right out work out′ work′ : List ℤ} → Works2 o left flag right out work x out′ work′ → Works2 o left flag right out work y out′ work′
+  works2 {o} {left} {flag} {right} {out} {work} {out′} {work′} h = subst (λ (t : Returned). Works2 o left flag right out work t out′ work′) (sym e) h
 
-  pub told-union : {left right out : List ℤ} → RightUnion left right x out → RightUnion left right y out
-  told-union {left} {right} {out} h = subst (λ (t : Returned). RightUnion left right t out) (sym e) h
+  pub gives1 : {o : Op1} {left out out′ : List ℤ} → Gives1 o left out x out′ → Gives1 o left out y out′
+  gives1 {o} {left} {out} {out′} h = subst (λ (t : Returned). Gives1 o left out t out′) (sym e) h
 
-  pub told-intersect : {left right out : List ℤ} → RightIntersect left right x out → RightIntersect left right y out
-  told-intersect {left} {right} {out} h = subst (λ (t : Returned). RightIntersect left right t out) (sym e) h
+  pub gives2 : {o : Op2} {left right out out′ : List ℤ} → Gives2 o left right out x out′ → Gives2 o left right out y out′
+  gives2 {o} {left} {right} {out} {out′} h = subst (λ (t : Returned). Gives2 o left right out t out′) (sym e) h
+
+  pub unites : {left right out out′ : List ℤ} → Unites left right out x out′ → Unites left right out y out′
+  unites {left} {right} {out} {out′} h = subst (λ (t : Returned). Unites left right out t out′) (sym e) h
+
+  pub meets : {left right out out′ : List ℤ} → Meets left right out x out′ → Meets left right out y out′
+  meets {left} {right} {out} {out′} h = subst (λ (t : Returned). Meets left right out t out′) (sym e) h
