@@ -45,15 +45,44 @@ pub enum Took {
     Bad,
 }
 
+// The words of forms as numbers: their letters, the first one lowest.
+const LE: u32 = (b'l' as u32) + 256 * (b'e' as u32);
+
+const LT: u32 = (b'l' as u32) + 256 * (b't' as u32);
+
+const NE: u32 = (b'n' as u32) + 256 * (b'e' as u32);
+
+const OR: u32 = (b'o' as u32) + 256 * (b'r' as u32);
+
+const REG: u32 = (b'r' as u32) + 256 * (b'e' as u32) + 65536 * (b'g' as u32);
+
+const NEG: u32 = (b'n' as u32) + 256 * (b'e' as u32) + 65536 * (b'g' as u32);
+
+const ABS: u32 = (b'a' as u32) + 256 * (b'b' as u32) + 65536 * (b's' as u32);
+
+const NOT: u32 = (b'n' as u32) + 256 * (b'o' as u32) + 65536 * (b't' as u32);
+
+const ADD: u32 = (b'a' as u32) + 256 * (b'd' as u32) + 65536 * (b'd' as u32);
+
+const SUB: u32 = (b's' as u32) + 256 * (b'u' as u32) + 65536 * (b'b' as u32);
+
+const MUL: u32 = (b'm' as u32) + 256 * (b'u' as u32) + 65536 * (b'l' as u32);
+
+const DIV: u32 = (b'd' as u32) + 256 * (b'i' as u32) + 65536 * (b'v' as u32);
+
+const REM: u32 = (b'r' as u32) + 256 * (b'e' as u32) + 65536 * (b'm' as u32);
+
+const AND: u32 = (b'a' as u32) + 256 * (b'n' as u32) + 65536 * (b'd' as u32);
+
 // The words of two letters.
 fn short_word(w: u32) -> Head
     ensures { λ r. ⌜ headOf r ≡ short w ⌝ }
 {
     match w {
-        25964 => Head::Two(Op2::Le),
-        29804 => Head::Two(Op2::Lt),
-        25966 => Head::Two(Op2::Ne),
-        29295 => Head::Two(Op2::Or),
+        LE => Head::Two(Op2::Le),
+        LT => Head::Two(Op2::Lt),
+        NE => Head::Two(Op2::Ne),
+        OR => Head::Two(Op2::Or),
         _ => Head::None,
     }
 }
@@ -63,16 +92,16 @@ fn long_word(w: u32) -> Head
     ensures { λ r. ⌜ headOf r ≡ long w ⌝ }
 {
     match w {
-        6776178 => Head::Reg,
-        6776174 => Head::One(Op1::Neg),
-        7561825 => Head::One(Op1::Abs),
-        7630702 => Head::One(Op1::Not),
-        6579297 => Head::Two(Op2::Add),
-        6452595 => Head::Two(Op2::Sub),
-        7107949 => Head::Two(Op2::Mul),
-        7760228 => Head::Two(Op2::Div),
-        7169394 => Head::Two(Op2::Rem),
-        6581857 => Head::Two(Op2::And),
+        REG => Head::Reg,
+        NEG => Head::One(Op1::Neg),
+        ABS => Head::One(Op1::Abs),
+        NOT => Head::One(Op1::Not),
+        ADD => Head::Two(Op2::Add),
+        SUB => Head::Two(Op2::Sub),
+        MUL => Head::Two(Op2::Mul),
+        DIV => Head::Two(Op2::Div),
+        REM => Head::Two(Op2::Rem),
+        AND => Head::Two(Op2::And),
         _ => Head::None,
     }
 }
@@ -87,16 +116,16 @@ fn letter(b: u8) -> u32
 pub fn read_head(text: &[u8]) -> Head
     ensures { λ r. ⌜ headOf r ≡ head (now (text .entry)) ⌝ }
 {
-    if at(text, 0) != 40 {
+    if at(text, 0) != b'(' {
         return Head::None;
     }
     let a = letter(at(text, 1));
     let b = letter(at(text, 2));
     let c = at(text, 3);
-    if c == 32 {
+    if c == b' ' {
         return short_word(a + 256 * b);
     }
-    if at(text, 4) == 32 {
+    if at(text, 4) == b' ' {
         long_word(a + 256 * b + 65536 * letter(c))
     } else {
         Head::None
@@ -107,7 +136,7 @@ pub fn read_head(text: &[u8]) -> Head
 pub fn start(text: &[u8]) -> usize
     ensures { λ r. ⌜ r ≡ startOf (now (text .entry)) ⌝ }
 {
-    if at(text, 3) == 32 { 4 } else { 5 }
+    if at(text, 3) == b' ' { 4 } else { 5 }
 }
 
 pub fn either(a: bool, b: bool) -> bool
@@ -121,7 +150,7 @@ fn closed(text: &[u8], i: usize, far: bool) -> Took
     requires { ⌜ i ≤ 18446744073709551614 ⌝ }
     ensures { λ r. ⌜ gotOf r ≡ closedAt (now (text .entry)) i far ⌝ }
 {
-    if at(text, i) == 41 {
+    if at(text, i) == b')' {
         Took::Bytes(i + 1, far)
     } else {
         Took::Bad
@@ -132,7 +161,7 @@ fn closed(text: &[u8], i: usize, far: bool) -> Took
 pub fn arg(text: &[u8], depth: usize) -> Took
     ensures { λ r. ⌜ gotOf r ≡ argAt sizes depth (now (text .entry)) ⌝ }
 {
-    if at(text, 0) == 40 {
+    if at(text, 0) == b'(' {
         if depth == 0 {
             Took::Bad
         } else {
@@ -162,7 +191,7 @@ fn form(text: &[u8], depth: usize) -> Took
         },
         Head::Two(_) => match arg(tail(text, k), depth) {
             Took::Bytes(n, a) => {
-                if at(text, k + n) != 32 {
+                if at(text, k + n) != b' ' {
                     return Took::Bad;
                 }
                 let j = k + n + 1;

@@ -1,8 +1,14 @@
 // Reads a sheet from standard input and writes its listing to standard output.
 ghost use lib.ListN.{length};
 ghost use Rattle.juwenfo.specs.Filled.{Filled};
+use limits::LINE;
+use limits::LINES;
+use listing::LONGEST;
 use listing::Listed;
 use listing::listing;
+
+// One byte more than the longest sheet has with its LFs: such a text is refused whatever follows.
+const ENOUGH: usize = LINES * (LINE + 1) + 1;
 
 // How many bytes were read, or that a read failed.
 enum Fill {
@@ -29,9 +35,9 @@ fn read_text(buffer: &mut [u8]) -> Fill
     Fill::Bytes(at)
 }
 
-// No listing is longer than 11,081 bytes.
+// The listing of a text: `out` has room for any.
 fn write_listing(text: &[u8]) {
-    let mut out = [0u8; 11081];
+    let mut out = [0u8; LONGEST];
     match listing(text, &mut out) {
         Listed::Written(n) => {
             io::write_all(1, &out[..n]);
@@ -40,9 +46,8 @@ fn write_listing(text: &[u8]) {
     }
 }
 
-// The longest sheet has 256 lines of 121 bytes, so one byte more decides: such a text is refused whatever follows.
 fn main() {
-    let mut text = [0u8; 30977];
+    let mut text = [0u8; ENOUGH];
     match read_text(&mut text) {
         Fill::Bytes(n) => write_listing(&text[..n]),
         Fill::Failed => {

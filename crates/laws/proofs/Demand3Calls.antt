@@ -3,13 +3,12 @@
 use lib.IntN.{ℤ, pos}
 use lib.ListN.{getD, set, length, take, length-set, length-replicate}
 use mathlib.Core.Path.{_≡_, refl, sym, ap, _∙_, subst}
-use mathlib.Core.Bool.{Bool, true, false, cond, _||_}
+use mathlib.Core.Bool.{Bool, true, false, cond}
 use mathlib.Core.List.{List, [], _∷_}
-use Prim.Native.Nat.{ℕ, zero, suc, _≤_, _<_}
+use Prim.Native.Nat.{ℕ, suc, _≤_, _<_}
 use native.Mathlib.Omega.{arith}
-use lib.Dec.{ltb}
 use borrow.Author.Tests.{le-ltb}
-use Rattle.meaning.specs.Refusals.{misshapen, tooShort, outsideIn, holdBroken}
+use Rattle.meaning.specs.Refusals.{misshapen, outsideIn, holdBroken}
 use Rattle.meaning.specs.Lists.{over, All}
 use Rattle.meaning.specs.Outcome.{Res, ok, stop, Outcome, done, stopped, onward, work}
 use Rattle.meaning.specs.Number.{within}
@@ -17,12 +16,12 @@ use Rattle.meaning.specs.Interval.{Interval}
 use Rattle.meaning.specs.NumberIntervals.{_∈_}
 use Rattle.meaning.specs.Sheet.{registers, Act, put, hold, Line, input, act}
 use Rattle.meaning.specs.Text.{Seen, Read, sheet, noSheet, prepend, Taken, thenRead, readOne, readLines, read, cut, shaped, splitLines, lines, nothingSeen}
-use Rattle.meaning.specs.Run.{valueOf, runAct, runLine, startNumbers, run, Judged, refused, worked, judge, runText, Verdict, verdict, runCall, leftBy, runLent, LentInside}
-use Rattle.meaning.specs.Check.{Bands, check, checkText, layout, setIn, setsNeed, workNeed, shipLimit, checkCall, setsLeftBy, checkSets}
+use Rattle.meaning.specs.Run.{valueOf, runAct, runLine, startNumbers, run, worked, judge, runText, Verdict, verdict, runCall, leftBy, runLent}
+use Rattle.meaning.specs.Check.{Bands, check, checkText, layout, setIn, setsNeed, workNeed, intervalLimit, checkCall, setsLeftBy, checkSets}
 use Rattle.meaning.specs.CheckSets.{stateOf}
-use Rattle.meaning.specs.Demand3.{SafeAt, Safe}
-use Rattle.meaning.specs.Demand3Calls.{fulfilled, Enough, CallsSafeAt, CallsSafe, CallsSafety}
-use Rattle.laws.proofs.Work.{ok-same, done-same, bind-ok, guard-ok, work-keeps, judge-worked}
+use Rattle.meaning.specs.Demand3.{SafeAt}
+use Rattle.meaning.specs.Demand3Calls.{fulfilled, Enough, CallsSafeAt, CallsSafety}
+use Rattle.laws.proofs.Work.{ok-same, bind-ok, guard-ok, work-keeps, judge-worked}
 use Rattle.laws.proofs.Over.{take-over}
 use Rattle.laws.proofs.Slots.{sets-shown}
 use Rattle.laws.proofs.Demand3.{demand3}
@@ -77,14 +76,14 @@ fulfilled-done {n} limit t e = go (read t) refl e
 
 -- tests of the lengths
 module _ (t : List ℕ) (sets work : List ℤ) (h : Enough sets work) where
-  pub check-call : checkCall t sets work ≡ checkText shipLimit t
+  pub check-call : checkCall t sets work ≡ checkText intervalLimit t
   unfolding checkCall
   check-call = rw (le-ltb (length sets) setsNeed (h .sets-long), le-ltb (length work) workNeed (h .work-long))
 
-  check-verdict : {n : ℕ} {B : Bands} → checkText shipLimit t ≡ worked n (done B) → verdict (checkCall t sets work) ≡ fulfilled n
+  check-verdict : {n : ℕ} {B : Bands} → checkText intervalLimit t ≡ worked n (done B) → verdict (checkCall t sets work) ≡ fulfilled n
   check-verdict e = ap verdict (check-call ∙ e)
 
-  pub check-left : {n : ℕ} {B : Bands} → checkText shipLimit t ≡ worked n (done B) → checkSets t sets work ≡ over (layout (B .sets)) sets
+  pub check-left : {n : ℕ} {B : Bands} → checkText intervalLimit t ≡ worked n (done B) → checkSets t sets work ≡ over (layout (B .sets)) sets
   unfolding checkSets
   check-left e = ap (setsLeftBy sets) (check-call ∙ e)
 
@@ -139,8 +138,8 @@ done-sized t lent e =
 
 pub demand3-calls : CallsSafety
 demand3-calls t sets work lent n h k e i =
-    let p = fulfilled-done shipLimit t (ap verdict (sym (check-call t sets work h)) ∙ e) in
-    let s = demand3 shipLimit t n (p .0) lent (p .1) i in
+    let p = fulfilled-done intervalLimit t (ap verdict (sym (check-call t sets work h)) ∙ e) in
+    let s = demand3 intervalLimit t n (p .0) lent (p .1) i in
     record {
       lines = s .lines;
       reads = s .reads;
@@ -160,12 +159,12 @@ demand3-calls t sets work lent n h k e i =
         take-is : (s : List ℤ) → Sized s → take registers (over s lent) ≡ s
         take-is s z = ap (λ (x : ℕ). take x (over s lent)) (sym z) ∙ take-over s lent
 
-    shown : (t : List ℕ) (sets work : List ℤ) → Enough sets work → {m : ℕ} {B : Bands} → checkText shipLimit t ≡ worked m (done B)
+    shown : (t : List ℕ) (sets work : List ℤ) → Enough sets work → {m : ℕ} {B : Bands} → checkText intervalLimit t ≡ worked m (done B)
         → (r : ℕ) → r < registers → {z : ℤ} → z ∈ getD (B .sets) r [] → z ∈ setIn (checkSets t sets work) r
     shown t sets work g {m} {B} q r b {z} w =
         subst (λ (x : List Interval). z ∈ x) (sym (ap (λ (l : List ℤ). setIn l r) (check-left t sets work g q) ∙ sets-shown t m B q sets r b)) w
 
-    at : (ls : List Line) (m : ℕ) → SafeAt shipLimit lent t ls m → CallsSafeAt lent t ls m
+    at : (ls : List Line) (m : ℕ) → SafeAt intervalLimit lent t ls m → CallsSafeAt lent t ls m
     at ls m a =
         record {
           state = a .state;

@@ -6,19 +6,13 @@ use mathlib.Core.Bool.{Bool, true, false, cond, _||_}
 use Prim.Native.Nat.{ℕ, zero, suc, _+_, _<_}
 use Prim.Native.Char.{code}
 use native.Mathlib.Omega.{arith}
-use lib.IntN.{ℤ, pos}
+use lib.IntN.{ℤ}
 use lib.ListN.{getD, take, drop}
 use lib.Dec.{eqb, ltb}
 use borrow.Author.Tests.{ltb-true}
-use Rattle.meaning.specs.Refusals.{zeroDivisor}
-use Rattle.meaning.specs.Outcome.{Res, ok, bind, orStop}
-use Rattle.meaning.specs.Number.{Op1, Op2, point1, point2}
-use Rattle.meaning.specs.Interval.{only}
-use Rattle.meaning.specs.NumberIntervals.{Set, set1, set2, flag1, flag2}
+use Rattle.meaning.specs.Number.{Op1, Op2}
 use Rattle.meaning.specs.Sheet.{registers, beyond, farForm}
-use Rattle.meaning.specs.Run.{valueOf}
-use Rattle.meaning.specs.Check.{at, settle, setOf}
-use Rattle.meaning.specs.Reading.{Got, got, bad, mapGot, andThen, closed, digits, number, needless, literal, registerWith, register, Head, isReg, is1, is2, isNone, head, start, Algebra, second, onHead, formWith, argWith, arg, form, tree, value}
+use Rattle.meaning.specs.Reading.{Got, got, bad, mapGot, andThen, closed, digits, number, needless, literal, registerWith, register, Head, isReg, is1, is2, isNone, head, start, Algebra, second, onHead, formWith, argWith, arg, tree}
 
 -- ---- registers that are read are there
 

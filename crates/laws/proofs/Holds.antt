@@ -8,7 +8,7 @@ use Rattle.meaning.specs.Refusals.{holdBroken}
 use Rattle.meaning.specs.Number.{Between}
 use Rattle.meaning.specs.NumberIntervals.{Set, _∈_, here, there, Normal}
 use Rattle.meaning.specs.Outcome.{ok, stop}
-use Rattle.meaning.specs.Check.{Bands, at, inside, checkAct}
+use Rattle.meaning.specs.Check.{at, inside, checkAct}
 use Rattle.meaning.specs.CheckSets.{Outside, HoldExact}
 use Rattle.laws.proofs.Integers.{zarith, never, by-test, and-both}
 use Rattle.laws.proofs.Members.{between}

@@ -4,14 +4,14 @@
 use mathlib.Core.Path.{_≡_, refl, sym, ap, _∙_, subst}
 use mathlib.Core.Bool.{Bool, true, false, not, cond, _&&_, _||_}
 use mathlib.Core.Logic.{_⊎_, inl, inr}
-use Prim.Native.Nat.{ℕ, zero, suc, _+_, _-_, _*_, _/_, _%_, _^_, _≤_, _<_, min, max}
+use Prim.Native.Nat.{ℕ, zero, suc, _+_, _-_, _*_, _/_, _%_, _≤_, _<_, min}
 use native.Mathlib.Nat.{zero-div, zero-mod, mul-le-mul-right}
 use native.Mathlib.Omega.{arith}
 use lib.Dec.{T, eqb, leb, ltb, leb→le, le→leb, ltb→lt, lt→ltb, nltb→le, nleb→lt}
 use borrow.Author.Tests.{eqb-true, eqb-false}
 use lib.IntN.{ℤ, pos, negsuc, negℤ, natAbs, subℕ, _+ℤ_, _-ℤ_, _*ℤ_, sucℤ, predℤ}
 use lib.Signed.{_≤ℤ_, _<ℤ_, leZ, ltZ, quotZ, remZ}
-use Rattle.meaning.specs.Number.{MIN, MAX, Between, within, eqZ, smaller, larger}
+use Rattle.meaning.specs.Number.{Between, within, eqZ, smaller, larger}
 
 abbrev pub up : ℤ → ℕ
 up (pos n) = n

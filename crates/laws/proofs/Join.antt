@@ -1,13 +1,10 @@
 -- The join: it has just the members of its intervals and is normal, and a normal set is fixed by its members, so nothing else is the join. Assumes nothing.
 use lib.IntN.{ℤ, sucℤ}
-use lib.ListN.{length}
 use lib.Signed.{leZ, _≤ℤ_, _<ℤ_, ≤ℤ-refl}
 use mathlib.Core.Path.{_≡_, refl}
 use mathlib.Core.Bool.{cond}
 use mathlib.Core.Logic.{_⊎_, inl, inr, ⊎-elim}
 use mathlib.Core.List.{List, [], _∷_}
-use Prim.Native.Nat.{suc, _≤_}
-use native.Mathlib.Omega.{arith}
 use Rattle.meaning.specs.Number.{MIN, MAX, Between, smaller, larger}
 use Rattle.meaning.specs.Interval.{Interval, Proper}
 use Rattle.meaning.specs.NumberIntervals.{Set, _∈_, here, there, apart, Apart, Normal, insert, rebuild}

@@ -1,7 +1,7 @@
 -- The integer kit for code on i64: its range, what the machine reads back from bits, and for each operation its need and its result. Assumes nothing.
 use mathlib.Core.Path.{_≡_, refl, sym, ap, _∙_, subst}
-use mathlib.Core.Bool.{Bool, true, false}
-use Prim.Native.Nat.{ℕ, zero, suc, _+_, _-_, _*_, _/_, _%_, _^_, _≤_, _<_, min, max}
+use mathlib.Core.Bool.{true, false}
+use Prim.Native.Nat.{ℕ, zero, suc, _+_, _-_, _*_, _/_, _^_, _≤_, _<_}
 use native.Mathlib.Nat.{zero-div, div-le-self, div-lt-self, lt-of-le-of-lt, lt-of-lt-of-le}
 use native.Mathlib.Omega.{arith}
 use lib.Dec.{T, eqb, ltb}
@@ -11,7 +11,7 @@ use lib.Signed.{_≤ℤ_, _<ℤ_, leZ, ltZ, nonNeg, mag, quotZ, remZ, mag-rem}
 use mir.Syntax.{w64}
 use mir.Val.{Fits, SFits, toZ, ofZ}
 use mir.Facts.{toZ-ofZ, sfits-lit}
-use Rattle.meaning.specs.Number.{MIN, MAX, Between, InRange, eqZ}
+use Rattle.meaning.specs.Number.{InRange, eqZ}
 use Rattle.laws.proofs.Integers.{up, down, zarith, by-test, lt-in, ne-in, one-part, abs-parts, add-parts, sub-parts, up-quot, down-quot, up-quot-neg, down-quot-neg}
 
 -- ---- the range of an i64

@@ -2,17 +2,17 @@
 use lib.IntN.{ℤ}
 use lib.ListN.{length, length-append}
 use lib.Signed.{_≤ℤ_, ≤ℤ-refl}
-use mathlib.Core.Path.{_≡_, refl, sym, ap, ap₂, _∙_}
-use mathlib.Core.Bool.{Bool, true, false, cond, _||_}
+use mathlib.Core.Path.{_≡_, refl, sym, ap₂}
+use mathlib.Core.Bool.{true}
 use mathlib.Core.Logic.{_⊎_, inl, inr}
 use mathlib.Core.List.{List, [], _∷_, _++_}
-use Prim.Native.Nat.{ℕ, _+_, _*_, _≤_}
+use Prim.Native.Nat.{ℕ, _*_, _≤_}
 use native.Mathlib.Omega.{arith}
 use Rattle.meaning.specs.Lists.{All}
-use Rattle.meaning.specs.Number.{MIN, MAX, Between, within, InRange}
+use Rattle.meaning.specs.Number.{Between, within, InRange}
 use Rattle.meaning.specs.Interval.{Interval, span, only, Proper, each, PairOp}
 use Rattle.meaning.specs.NumberIntervals.{Set, _∈_, here, there, contains, Normal, eachPair}
-use Rattle.laws.proofs.Integers.{zarith, never, by-test, or-left, or-right, or-cases, between-within, from-within}
+use Rattle.laws.proofs.Integers.{zarith, never, or-left, or-right, or-cases, between-within, from-within}
 
 -- ---- members of a list by its parts
 

@@ -1,13 +1,13 @@
 -- Laws of `over`, and of a callee that is lent the tail of a slice. Assumes nothing.
-use mathlib.Core.Path.{_≡_, refl, sym, ap, subst, _∙_}
+use mathlib.Core.Path.{_≡_, refl, sym, ap, _∙_}
 use mathlib.Core.List.{List, [], _∷_, _++_, append-assoc, append-nil}
 use borrow.Rule.Slice.PartMut.{midOf, putMid}
-use Prim.Native.Nat.{ℕ, zero, suc, _+_, _-_, _≤_, _<_}
+use Prim.Native.Nat.{ℕ, suc, _+_, _-_, _≤_, _<_}
 use native.Mathlib.Omega.{arith}
 use native.Mathlib.Nat.{zero-add}
 use native.Mathlib.Numerals.{add-one}
-use lib.ListN.{length, getD, set, take, drop, replicate, length-drop, length-append, length-replicate, replicate-append-replicate, drop-of-length-le, List·getD-append}
-use lib.Seq.{take-append-seam, drop-append-seam, drop-append-le, drop-drop, set-append-seam, drop-cons, sets, sets-eq, slice, length-slice, length-take-le, take-suc, take-at, drop-at, take-all}
+use lib.ListN.{length, getD, set, take, drop, replicate, length-drop, length-append, length-replicate, replicate-append-replicate, drop-of-length-le}
+use lib.Seq.{take-append-seam, drop-append-seam, drop-drop, set-append-seam, drop-cons, sets, sets-eq, length-take-le, take-suc, take-at, drop-at, take-all}
 use Rattle.meaning.specs.Lists.{over}
 
 module _ {ℓ} {A : Type ℓ} where

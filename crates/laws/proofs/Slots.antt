@@ -10,10 +10,7 @@ use native.Mathlib.Omega.{arith}
 use Rattle.meaning.specs.Lists.{over, All}
 use Rattle.meaning.specs.Interval.{only}
 use Rattle.meaning.specs.NumberIntervals.{Set, flat, intervals}
-use Rattle.meaning.specs.Outcome.{done}
-use Rattle.meaning.specs.Sheet.{registers}
-use Rattle.meaning.specs.Run.{worked}
-use Rattle.meaning.specs.Check.{Bands, slotSize, slot, layout, setIn, setsNeed, shipLimit, checkText}
+use Rattle.meaning.specs.Check.{Bands, slotSize, slot, layout, setIn, setsNeed, intervalLimit}
 use Rattle.meaning.specs.CheckSets.{SoundBands, SetsShown}
 use Rattle.laws.proofs.All.{all-from}
 use Rattle.laws.proofs.CheckSets.{passed-sound}
@@ -69,15 +66,15 @@ unfolding over
 layout-over S old r h k = layout-front S (drop (length (layout S)) old) r h k
 
 -- the sets of a check under the limit of 16
-pub sound-short : {B : Bands} → SoundBands shipLimit B → All Short (B .sets)
+pub sound-short : {B : Bands} → SoundBands intervalLimit B → All Short (B .sets)
 sound-short {B} h = all-from Short (B .sets) (only (pos 0)) (λ r _. h .each r .few)
 
 -- and so the 528 numbers
-pub length-shown : {B : Bands} → SoundBands shipLimit B → length (layout (B .sets)) ≡ setsNeed
+pub length-shown : {B : Bands} → SoundBands intervalLimit B → length (layout (B .sets)) ≡ setsNeed
 length-shown {B} h = length-layout (B .sets) (sound-short h) ∙ ap (λ (n : ℕ). n * slotSize) (h .size)
 
 -- each register's set reads back from what a passed check leaves, whatever the slice held
 pub sets-shown : SetsShown
 sets-shown t n B e old r h =
-    let s = passed-sound shipLimit t (omega arith) e in
+    let s = passed-sound intervalLimit t (omega arith) e in
     layout-over (B .sets) old r (sound-short s) (subst (λ (k : ℕ). r < k) (sym (s .size)) h)

@@ -7,12 +7,15 @@ ghost use Rattle.lines.specs.Answer.{ends as endsAt, ranged, rangeLine, 
 use forms::Took;
 use forms::arg;
 use forms::either;
+use limits::INNER;
 use literals::Literal;
 use literals::Register;
 use literals::at;
 use literals::read_literal;
 use literals::read_register;
 use literals::tail;
+use refusals::FAR_LITERAL;
+use refusals::UNGRAMMATICAL;
 
 // The first word of a line.
 enum Kind {
@@ -51,7 +54,7 @@ fn ends(text: &[u8], i: usize) -> bool
     requires { ⌜ i ≤ 18446744073709551614 ⌝ }
     ensures { λ r. ⌜ r ≡ endsAt (now (text .entry)) i ⌝ }
 {
-    if at(text, i) == 41 {
+    if at(text, i) == b')' {
         i + 1 == text.len()
     } else {
         false
@@ -63,10 +66,10 @@ fn range_line(held: bool, r: usize, lo: i64, hi: i64, far: bool) -> LineForm
     ensures { λ l. ⌜ l ≡ rangeLine held r lo hi far ⌝ }
 {
     if far {
-        return LineForm::Refused(7);
+        return LineForm::Refused(FAR_LITERAL);
     }
     if hi < lo {
-        return LineForm::Refused(6);
+        return LineForm::Refused(UNGRAMMATICAL);
     }
     if held {
         LineForm::Hold(r, lo, hi)
@@ -82,8 +85,8 @@ fn bounds_line(text: &[u8], held: bool, r: usize, i: usize) -> LineForm
 {
     match read_literal(tail(text, i)) {
         Literal::Is(lo, far, n) => {
-            if at(text, i + n) != 32 {
-                return LineForm::Refused(6);
+            if at(text, i + n) != b' ' {
+                return LineForm::Refused(UNGRAMMATICAL);
             }
             let j = i + n + 1;
             match read_literal(tail(text, j)) {
@@ -91,13 +94,13 @@ fn bounds_line(text: &[u8], held: bool, r: usize, i: usize) -> LineForm
                     if ends(text, j + m) {
                         range_line(held, r, lo, hi, either(far, far2))
                     } else {
-                        LineForm::Refused(6)
+                        LineForm::Refused(UNGRAMMATICAL)
                     }
                 }
-                Literal::Bad => LineForm::Refused(6),
+                Literal::Bad => LineForm::Refused(UNGRAMMATICAL),
             }
         }
-        Literal::Bad => LineForm::Refused(6),
+        Literal::Bad => LineForm::Refused(UNGRAMMATICAL),
     }
 }
 
@@ -106,19 +109,19 @@ fn put_line(text: &[u8], r: usize, i: usize) -> LineForm
     requires { ⌜ i ≤ length (now text) ⌝ }
     ensures { λ l. ⌜ lineFrom (now (text .entry)) l ≡ judged (wholeLine (now (text .entry)) (bodyOf Kind.Put (now (text .entry)) r i)) ⌝ }
 {
-    match arg(tail(text, i), 7) {
+    match arg(tail(text, i), INNER) {
         Took::Bytes(n, far) => {
             if ends(text, i + n) {
                 if far {
-                    LineForm::Refused(7)
+                    LineForm::Refused(FAR_LITERAL)
                 } else {
                     LineForm::Put(r, i)
                 }
             } else {
-                LineForm::Refused(6)
+                LineForm::Refused(UNGRAMMATICAL)
             }
         }
-        Took::Bad => LineForm::Refused(6),
+        Took::Bad => LineForm::Refused(UNGRAMMATICAL),
     }
 }
 
@@ -141,13 +144,13 @@ fn kind_line(text: &[u8], kind: Kind, k: usize) -> LineForm
 {
     match read_register(tail(text, k)) {
         Register::Is(r, n) => {
-            if at(text, k + n) == 32 {
+            if at(text, k + n) == b' ' {
                 body(text, kind, r, k + n + 1)
             } else {
-                LineForm::Refused(6)
+                LineForm::Refused(UNGRAMMATICAL)
             }
         }
-        Register::None => LineForm::Refused(6),
+        Register::None => LineForm::Refused(UNGRAMMATICAL),
     }
 }
 
@@ -164,6 +167,6 @@ pub fn read_line(text: &[u8]) -> LineForm
     if begins(text, b"(hold ") {
         kind_line(text, Kind::Hold, 6)
     } else {
-        LineForm::Refused(6)
+        LineForm::Refused(UNGRAMMATICAL)
     }
 }

@@ -13,7 +13,7 @@ use Rattle.meaning.specs.NumberIntervals.{Set, Normal}
 use Rattle.meaning.specs.Sheet.{registers, Line}
 use Rattle.meaning.specs.Text.{Read, sheet, noSheet, read}
 use Rattle.meaning.specs.Run.{worked, judge}
-use Rattle.meaning.specs.Check.{Bands, at, shipLimit, check, checkText}
+use Rattle.meaning.specs.Check.{Bands, at, intervalLimit, check, checkText}
 use Rattle.meaning.specs.CheckSets.{SoundBands}
 use Rattle.meaning.specs.Listing.{digitsBefore, decimal, decimalZ, troubleLine, intervalTexts, registerLine, registerLines, listed, passLine, outcomeText, readText, listing}
 use Rattle.laws.proofs.Integers.{cond-case}
@@ -75,7 +75,7 @@ intervals-most (i ∷ s) p =
       intervals-most s (p .1),
     )
 
-line-most : (r : ℕ) (s : Set) → r < registers → Normal s → length s ≤ shipLimit → length (registerLine r s) ≤ lineMost
+line-most : (r : ℕ) (s : Set) → r < registers → Normal s → length s ≤ intervalLimit → length (registerLine r s) ≤ lineMost
 unfolding registerLine
 line-most r s h n k =
     omega (
@@ -86,7 +86,7 @@ line-most r s h n k =
       intervals-most s (normal-proper s n),
     )
 
-lines-most : (ls : List Line) {B : Bands} → SoundBands shipLimit B → (n r : ℕ) → r + n ≤ registers → length (registerLines ls (B .sets) r n) ≤ lineMost * n
+lines-most : (ls : List Line) {B : Bands} → SoundBands intervalLimit B → (n r : ℕ) → r + n ≤ registers → length (registerLines ls (B .sets) r n) ≤ lineMost * n
 unfolding registerLines
 lines-most ls h zero r k = omega arith
 lines-most ls {B} h (suc n) r k =
@@ -105,13 +105,13 @@ listing-most t = go (read t) refl
   where
     go : (x : Read) → read t ≡ x → length (readText x) ≤ longest
     go (noSheet k l) e = trouble-most k l
-    go (sheet ls) e = inner (check shipLimit ls) refl
+    go (sheet ls) e = inner (check intervalLimit ls) refl
       where
         few : length ls ≤ 256
         few = let h = reads t e .shape .few in omega (arith, read-length t e)
 
-        inner : (o : Outcome Bands) → check shipLimit ls ≡ o → length (outcomeText ls o) ≤ longest
+        inner : (o : Outcome Bands) → check intervalLimit ls ≡ o → length (outcomeText ls o) ≤ longest
         inner (stopped k l B) p = trouble-most k l
         inner (done B) p =
-            let h = passed-sound shipLimit t (omega arith) (ap (judge (check shipLimit)) e ∙ ap (worked (length ls)) p) in
+            let h = passed-sound intervalLimit t (omega arith) (ap (judge (check intervalLimit)) e ∙ ap (worked (length ls)) p) in
             omega (arith, length-append (passLine (length ls)) (registerLines ls (B .sets) 0 registers), pass-most (length ls) few, lines-most ls h registers 0 (omega arith))

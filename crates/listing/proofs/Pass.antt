@@ -14,7 +14,7 @@ use Rattle.meaning.specs.NumberIntervals.{Set}
 use Rattle.meaning.specs.Sheet.{registers, Line}
 use Rattle.meaning.specs.Text.{Read, sheet, noSheet, read}
 use Rattle.meaning.specs.Run.{worked, judge}
-use Rattle.meaning.specs.Check.{Bands, at, setIn, layout, shipLimit, check, checkText}
+use Rattle.meaning.specs.Check.{Bands, at, setIn, layout, intervalLimit, check, checkText}
 use Rattle.meaning.specs.Listing.{troubleLine, registerLine, registerLines, listed, passLine, outcomeText, readText, listing}
 use Rattle.laws.proofs.Work.{judge-worked}
 use Rattle.laws.proofs.CheckSets.{passed-sound}
@@ -58,16 +58,16 @@ module _ (ls : List Line) (S : List Set) (m : List Bool) (l : List ℤ)
   marked-lines-are (suc n) r h = let k : r < registers = omega arith in let e = marked-lines-are n (suc r) (omega arith) in λ i. marked-is r k i ++ e i
 
 -- a pass
-module _ (t : List ℕ) {n : ℕ} {B : Bands} (e : checkText shipLimit t ≡ worked n (done B)) where
+module _ (t : List ℕ) {n : ℕ} {B : Bands} (e : checkText intervalLimit t ≡ worked n (done B)) where
   pub sheet-of : IsSheet t n
   unfolding checkText
-  sheet-of = let w = judge-worked (check shipLimit) (read t) e in record { lines = w .lines; reads = w .reads; count = w .count }
+  sheet-of = let w = judge-worked (check intervalLimit) (read t) e in record { lines = w .lines; reads = w .reads; count = w .count }
 
   pub pass-text : (old : List ℤ) → passLine n ++ markedLines (marksAfter t n) (over (layout (B .sets)) old) 0 registers ≡ listing t
   unfolding checkText listing readText outcomeText
   pass-text old =
-      let w = judge-worked (check shipLimit) (read t) e in
-      let s = passed-sound shipLimit t (omega arith) e in
+      let w = judge-worked (check intervalLimit) (read t) e in
+      let s = passed-sound intervalLimit t (omega arith) e in
       let ls = w .lines in
       let shown : (r : ℕ) → r < registers → setIn (over (layout (B .sets)) old) r ≡ at (B .sets) r = λ r h. sets-shown t n B e old r h ∙ getD-there (B .sets) r [] (only (pos 0)) (subst (λ (k : ℕ). r < k) (sym (s .size)) h) in
       let m = marked-lines-are ls (B .sets) (marksAfter t n) (over (layout (B .sets)) old) (λ r h. marks-listed t (w .reads) n r (w .count) h) shown registers 0 (omega arith) in
@@ -86,14 +86,14 @@ layout-count (s ∷ S) rest (suc r) h k =
     ∙ getD-append-add (slot s) (layout S ++ rest) (slotSize * r) (pos 0)
     ∙ layout-count S rest r (h .1) (le-of-suc-le-suc k)
 
-counted : (t : List ℕ) {n : ℕ} {B : Bands} → checkText shipLimit t ≡ worked n (done B) → (old : List ℤ) → Counted (over (layout (B .sets)) old)
+counted : (t : List ℕ) {n : ℕ} {B : Bands} → checkText intervalLimit t ≡ worked n (done B) → (old : List ℤ) → Counted (over (layout (B .sets)) old)
 unfolding over
 counted t {B = B} e old = record { few = few }
   where
-    s : SoundBands shipLimit B
-    s = passed-sound shipLimit t (omega arith) e
+    s : SoundBands intervalLimit B
+    s = passed-sound intervalLimit t (omega arith) e
 
-    few : (r : ℕ) → r < registers → countIn (getD (layout (B .sets) ++ drop (length (layout (B .sets))) old) (slotSize * r) (pos 0)) ≤ shipLimit
+    few : (r : ℕ) → r < registers → countIn (getD (layout (B .sets) ++ drop (length (layout (B .sets))) old) (slotSize * r) (pos 0)) ≤ intervalLimit
     few r h =
         let k : r < length (B .sets) = subst (λ (k : ℕ). r < k) (sym (s .size)) h in
         let p = ap countIn (layout-count (B .sets) (drop (length (layout (B .sets))) old) r (sound-short s) k) in
@@ -109,11 +109,11 @@ pub record Passing (t : List ℕ) (l : List ℤ) (n : ℕ) : Type 0 where
 module _ {t : List ℕ} {l : List ℤ} {a : Answer} (k : Told t l a) where
   pub told-pass : {n : ℕ} → a ≡ answer.Pass n → Passing t l n
   told-pass {n} z =
-      let p = pass-done (checkText shipLimit t) (sym z ∙ k .gave) in
+      let p = pass-done (checkText intervalLimit t) (sym z ∙ k .gave) in
       let B = p .0 in
       let e = p .1 in
       let left : l ≡ over (layout (B .sets)) (k .lent) = k .left ∙ ap (setsLeftBy (k .lent)) e in
-      let size = length-shown (passed-sound shipLimit t (omega arith) e) in
+      let size = length-shown (passed-sound intervalLimit t (omega arith) e) in
       subst (λ (x : List ℤ). Passing t x n) (sym left)
       (record {
         sheet = sheet-of t e;
@@ -134,9 +134,9 @@ module _ {t : List ℕ} {l : List ℤ} {a : Answer} (k : Told t l a) where
           (λ x. troubleLine (v x .number) (v x .line))
 
       go : (x : Read) → read t ≡ x → troubleLine (verdictOf a .number) (verdictOf a .line) ≡ readText (read t)
-      go (sheet ls) e = inner ls (check shipLimit ls) (k .gave ∙ ap (λ (x : Read). answerFor (judge (check shipLimit) x)) e) ∙ sym (ap readText e)
+      go (sheet ls) e = inner ls (check intervalLimit ls) (k .gave ∙ ap (λ (x : Read). answerFor (judge (check intervalLimit) x)) e) ∙ sym (ap readText e)
       go (noSheet i j) e =
-          let v = ap verdictOf (k .gave ∙ ap (λ (x : Read). answerFor (judge (check shipLimit) x)) e) in
+          let v = ap verdictOf (k .gave ∙ ap (λ (x : Read). answerFor (judge (check intervalLimit) x)) e) in
           (λ x. troubleLine (v x .number) (v x .line)) ∙ sym (ap readText e)
 
   pub told-finding : {i j : ℕ} → a ≡ answer.Finding i j → troubleLine i j ≡ listing t

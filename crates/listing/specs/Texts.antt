@@ -5,7 +5,7 @@ use lib.IntN.{ℤ, pos}
 use lib.ListN.{getD}
 use Prim.Native.Nat.{ℕ, zero, suc, _*_, _≤_, _<_}
 use Rattle.meaning.specs.Sheet.{registers}
-use Rattle.meaning.specs.Check.{slotSize, countIn, setIn, shipLimit}
+use Rattle.meaning.specs.Check.{slotSize, countIn, setIn, intervalLimit}
 use Rattle.meaning.specs.Listing.{registerLine}
 
 -- the line of a register that is marked, with the set that the numbers of a passed check show
@@ -19,4 +19,4 @@ markedLines m l r (suc n) = markedLine m l r ++ markedLines m l (suc r) n
 
 -- no register shows more intervals than its slot has room for
 pub record Counted (l : List ℤ) : Type 0 where
-  pub few : (r : ℕ) → r < registers → countIn (getD l (slotSize * r) (pos 0)) ≤ shipLimit
+  pub few : (r : ℕ) → r < registers → countIn (getD l (slotSize * r) (pos 0)) ≤ intervalLimit

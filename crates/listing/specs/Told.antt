@@ -4,7 +4,7 @@ use lib.ListN.{length}
 use mathlib.Core.Path.{_≡_}
 use mathlib.Core.List.{List}
 use Prim.Native.Nat.{ℕ}
-use Rattle.meaning.specs.Check.{setsNeed, shipLimit, setsLeftBy, checkText}
+use Rattle.meaning.specs.Check.{setsNeed, intervalLimit, setsLeftBy, checkText}
 use Rattle.sheet_check.specs.Answer.{answerFor}
 use Rattle.sheet_check.specs.declared.Answer.{Answer}
 
@@ -12,5 +12,5 @@ use Rattle.sheet_check.specs.declared.Answer.{Answer}
 pub record Told (t : List ℕ) (l : List ℤ) (a : Answer) : Type 0 where
   pub lent : List ℤ
   pub size : length lent ≡ setsNeed
-  pub gave : a ≡ answerFor (checkText shipLimit t)
-  pub left : l ≡ setsLeftBy lent (checkText shipLimit t)
+  pub gave : a ≡ answerFor (checkText intervalLimit t)
+  pub left : l ≡ setsLeftBy lent (checkText intervalLimit t)

@@ -16,6 +16,10 @@ ghost use Rattle.listing.specs.Longest.{longest};
 ghost use Rattle.listing.specs.Told.{Told};
 ghost use Rattle.listing.specs.Handed.{handed, handedOver};
 ghost use Rattle.listing.specs.Texts.{markedLine, markedLines, Counted};
+use limits::REGISTERS;
+use limits::SETS;
+use limits::SLOT;
+use limits::WORK;
 use lines::LineForm;
 use lines::read_line;
 use sheet::line_end;
@@ -24,6 +28,9 @@ use sheet_check::check;
 use wording::pass_line;
 use wording::register_line;
 use wording::trouble_line;
+
+// No listing is longer: "pass 256", and of each register its name and 16 intervals, each of two numbers of up to 20 bytes behind one space and two points.
+pub const LONGEST: usize = 11081;
 
 // Written with its length, or longer than the bytes that were lent.
 pub enum Listed {
@@ -43,7 +50,7 @@ fn ends_of(sets: &[i64], r: usize) -> &[i64]
     requires { ⌜ (length (now sets) ≡ setsNeed) × (r < registers) × Counted (now sets) ⌝ }
     ensures { λ e. ⌜ now e ≡ take (2 * countIn (getD (now (sets .entry)) (slotSize * r) (pos 0))) (drop (slotSize * r + 1) (now (sets .entry))) ⌝ }
 {
-    let at = 33 * r;
+    let at = SLOT * r;
     let n = count_in(sets[at]);
     let from = at + 1;
     let to = from + 2 * n;
@@ -69,7 +76,7 @@ fn marked_lines(out: &mut [u8], marks: &[bool], sets: &[i64], r: usize) -> usize
     requires { ⌜ length (markedLines (now marks) (now sets) r (registers - r)) ≤ length (now out) ⌝ }
     ensures { λ n. ⌜ Written n (markedLines (now (marks .entry)) (now (sets .entry)) r (registers - r)) (now (out .exit)) (now (out .entry)) ⌝ }
 {
-    if r == 16 {
+    if r == REGISTERS {
         return 0;
     }
     let at = marked_line(out, marks, sets, r);
@@ -77,7 +84,7 @@ fn marked_lines(out: &mut [u8], marks: &[bool], sets: &[i64], r: usize) -> usize
 }
 
 // Marks the register of a line's `in` or `put`.
-fn mark(marks: &mut [bool; 16], line: &[u8])
+fn mark(marks: &mut [bool; REGISTERS], line: &[u8])
     requires { ⌜ Readable (now line) ⌝ }
     ensures { λ _. ⌜ now (marks .exit) ≡ markLine (readLine (now (line .entry))) (now (marks .entry)) ⌝ }
 {
@@ -94,7 +101,7 @@ fn mark(marks: &mut [bool; 16], line: &[u8])
 }
 
 // Marks the registers that the n lines of a sheet write.
-fn mark_lines(marks: &mut [bool; 16], text: &[u8], n: usize)
+fn mark_lines(marks: &mut [bool; REGISTERS], text: &[u8], n: usize)
     requires { ⌜ IsSheet (now text) n × (now marks ≡ marksAfter (now text) 0) ⌝ }
     ensures { λ _. ⌜ now (marks .exit) ≡ marksAfter (now (text .entry)) n ⌝ }
 {
@@ -114,7 +121,7 @@ fn passed(out: &mut [u8], text: &[u8], sets: &[i64], n: usize) -> usize
     requires { ⌜ length (passLine n ++ markedLines (marksAfter (now text) n) (now sets) 0 registers) ≤ length (now out) ⌝ }
     ensures { λ r. ⌜ Written r (passLine n ++ markedLines (marksAfter (now (text .entry)) n) (now (sets .entry)) 0 registers) (now (out .exit)) (now (out .entry)) ⌝ }
 {
-    let mut marks = [false; 16];
+    let mut marks = [false; REGISTERS];
     mark_lines(&mut marks, text, n);
     let at = pass_line(out, n);
     at + marked_lines(&mut out[at..], &marks, sets, 0)
@@ -148,8 +155,8 @@ fn list_into(buffer: &mut [u8], text: &[u8]) -> usize
     requires { ⌜ longest ≤ length (now buffer) ⌝ }
     ensures { λ r. ⌜ Written r (listing (now (text .entry))) (now (buffer .exit)) (now (buffer .entry)) ⌝ }
 {
-    let mut sets = [0i64; 528];
-    let mut work = [0i64; 8192];
+    let mut sets = [0i64; SETS];
+    let mut work = [0i64; WORK];
     let a = check(text, &mut sets, &mut work);
     told(buffer, text, &sets, a)
 }
@@ -159,7 +166,7 @@ pub fn listing(text: &[u8], out: &mut [u8]) -> Listed
     ensures { λ r. ⌜ r ≡ handed (listing (now (text .entry))) (length (now (out .entry))) ⌝ }
     ensures { λ r. ⌜ now (out .exit) ≡ handedOver (listing (now (text .entry))) (now (out .entry)) ⌝ }
 {
-    let mut buffer = [0u8; 11081];
+    let mut buffer = [0u8; LONGEST];
     let n = list_into(&mut buffer, text);
     hand_over(out, &buffer[..n])
 }

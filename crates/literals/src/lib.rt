@@ -6,6 +6,7 @@ ghost use lib.ListN.{getD, drop, take};
 ghost use Rattle.meaning.specs.Reading.{got, digits as digitsOf, needless as needlessIn, scale as scaleOf, signed, unsigned as unsignedAt, literal, register};
 ghost use Rattle.literals.specs.Capped.{cap, capped};
 ghost use Rattle.literals.specs.Answer.{registerOf, literalOf};
+use limits::REGISTERS;
 
 // A register's number and how many bytes it takes.
 pub enum Register {
@@ -55,10 +56,10 @@ fn digits(text: &[u8]) -> usize
 {
     let mut i = 0;
     while i < text.len() {
-        if text[i] < 48 {
+        if text[i] < b'0' {
             return i;
         }
-        if 57 < text[i] {
+        if b'9' < text[i] {
             return i;
         }
         i += 1;
@@ -69,7 +70,7 @@ fn digits(text: &[u8]) -> usize
 fn digit(b: u8) -> u8
     ensures { λ r. ⌜ r ≡ b - 48 ⌝ }
 {
-    if 48 <= b { b - 48 } else { 0 }
+    if b'0' <= b { b - b'0' } else { 0 }
 }
 
 fn wide(b: u8) -> u64
@@ -154,7 +155,7 @@ fn finish(negated: bool, m: u64, n: usize) -> Literal
 fn needless(text: &[u8], i: usize) -> bool
     ensures { λ r. ⌜ r ≡ needlessIn (now (text .entry)) i ⌝ }
 {
-    if 1 < i { at(text, 0) == 48 } else { false }
+    if 1 < i { at(text, 0) == b'0' } else { false }
 }
 
 // A literal without its sign, which took o bytes.
@@ -170,7 +171,7 @@ fn unsigned(negated: bool, o: usize, text: &[u8]) -> Literal
         return Literal::Bad;
     }
     let v = number(0, first(text, i));
-    if at(text, i) != 46 {
+    if at(text, i) != b'.' {
         return finish(negated, scaled(v, 0), o + i);
     }
     let t = tail(text, i + 1);
@@ -188,7 +189,7 @@ fn unsigned(negated: bool, o: usize, text: &[u8]) -> Literal
 pub fn read_literal(text: &[u8]) -> Literal
     ensures { λ r. ⌜ r ≡ literalOf (literal (now (text .entry))) ⌝ }
 {
-    if at(text, 0) == 45 {
+    if at(text, 0) == b'-' {
         unsigned(true, 1, tail(text, 1))
     } else {
         unsigned(false, 0, text)
@@ -207,7 +208,7 @@ pub fn read_register(text: &[u8]) -> Register
         return Register::None;
     }
     let v = number(0, first(text, i));
-    if v < 16 {
+    if v < (REGISTERS as u64) {
         Register::Is(v as usize, i)
     } else {
         Register::None

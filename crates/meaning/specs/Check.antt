@@ -9,7 +9,7 @@ use Prim.Native.Nat.{ℕ, _+_, _-_, _*_}
 use Rattle.meaning.specs.Refusals.{tooShort, crowded, zeroDivisor, holdBroken}
 use Rattle.meaning.specs.Lists.{over}
 use Rattle.meaning.specs.Outcome.{Res, ok, stop, bind, Outcome, done, stopped, work}
-use Rattle.meaning.specs.Interval.{Interval, span, only}
+use Rattle.meaning.specs.Interval.{span, only}
 use Rattle.meaning.specs.NumberIntervals.{Set, set1, set2, flag1, flag2, flat, intervals}
 use Rattle.meaning.specs.Sheet.{registers, Form, lit, reg, form1, form2, Act, put, hold, Line, input, act}
 use Rattle.meaning.specs.Text.{read}
@@ -92,12 +92,12 @@ setsNeed = registers * slotSize
 abbrev pub workNeed : ℕ
 workNeed = 8192
 
-abbrev pub shipLimit : ℕ
-shipLimit = 16
+abbrev pub intervalLimit : ℕ
+intervalLimit = 16
 
 -- 3 where a lent slice is short, before all else
 unfoldable pub checkCall : List ℕ → List ℤ → List ℤ → Judged Bands
-checkCall t sets work = cond (ltb (length sets) setsNeed || ltb (length work) workNeed) (refused tooShort 0) (checkText shipLimit t)
+checkCall t sets work = cond (ltb (length sets) setsNeed || ltb (length work) workNeed) (refused tooShort 0) (checkText intervalLimit t)
 
 -- the sets are written on a pass only
 abbrev pub setsLeftBy : List ℤ → Judged Bands → List ℤ

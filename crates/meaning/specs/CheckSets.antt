@@ -8,12 +8,12 @@ use Prim.Native.Nat.{ℕ, _<_, _≤_}
 use Rattle.meaning.specs.Refusals.{holdBroken}
 use Rattle.meaning.specs.Lists.{over}
 use Rattle.meaning.specs.Number.{Between}
-use Rattle.meaning.specs.Outcome.{Res, ok, stop, Outcome, done, stopped}
+use Rattle.meaning.specs.Outcome.{ok, stop, Outcome, done, stopped}
 use Rattle.meaning.specs.NumberIntervals.{Set, _∈_, Normal}
 use Rattle.meaning.specs.Sheet.{registers, hold, Line}
 use Rattle.meaning.specs.Text.{sheet, read}
 use Rattle.meaning.specs.Run.{worked}
-use Rattle.meaning.specs.Check.{Bands, at, checkAct, check, checkText, layout, setIn, shipLimit}
+use Rattle.meaning.specs.Check.{Bands, at, checkAct, check, checkText, layout, setIn, intervalLimit}
 
 pub record SoundSet (limit : ℕ) (s : Set) : Type 0 where
   pub normal : Normal s
@@ -54,4 +54,4 @@ HoldExact = (limit : ℕ) (B : Bands) (r : ℕ) (lo hi : ℤ) → Normal (at (B 
 -- ---- each register's set reads back from what a passed check leaves, whatever the slice held
 
 abbrev pub SetsShown : Type 0
-SetsShown = (t : List ℕ) (n : ℕ) (B : Bands) → checkText shipLimit t ≡ worked n (done B) → (old : List ℤ) (r : ℕ) → r < registers → setIn (over (layout (B .sets)) old) r ≡ getD (B .sets) r []
+SetsShown = (t : List ℕ) (n : ℕ) (B : Bands) → checkText intervalLimit t ≡ worked n (done B) → (old : List ℤ) (r : ℕ) → r < registers → setIn (over (layout (B .sets)) old) r ≡ getD (B .sets) r []

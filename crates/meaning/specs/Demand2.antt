@@ -6,7 +6,7 @@ use mathlib.Core.Path.{_≡_}
 use mathlib.Core.Bool.{Bool, true, false}
 use mathlib.Core.List.{List}
 use mathlib.Core.Logic.{_⊎_}
-use mathlib.Core.Option.{Option, some}
+use mathlib.Core.Option.{some}
 use Prim.Native.Nat.{ℕ, _≤_}
 use Rattle.meaning.specs.Lists.{All}
 use Rattle.meaning.specs.Number.{Op1, neg, abs, not′, Op2, add, sub, mul, div, rem, le, lt, ne, and, or, point1, point2}

@@ -4,11 +4,11 @@ use lib.ListN.{getD, length}
 use mathlib.Core.Path.{_≡_}
 use mathlib.Core.List.{List, []}
 use Prim.Native.Nat.{ℕ, _<_, _≤_}
-use Rattle.meaning.specs.Outcome.{Outcome, done}
+use Rattle.meaning.specs.Outcome.{done}
 use Rattle.meaning.specs.NumberIntervals.{Set, _∈_}
 use Rattle.meaning.specs.Sheet.{registers, Line}
-use Rattle.meaning.specs.Text.{cut, Read, sheet, read}
-use Rattle.meaning.specs.Run.{Judged, worked, runText, stateAfter, LentInside}
+use Rattle.meaning.specs.Text.{cut, sheet, read}
+use Rattle.meaning.specs.Run.{worked, runText, stateAfter, LentInside}
 use Rattle.meaning.specs.Check.{Bands, checkText}
 
 -- each register's number is in the register's set

@@ -5,7 +5,7 @@ use lib.ListN.{getD, length, take}
 use mathlib.Core.Path.{_≡_}
 use mathlib.Core.List.{List}
 use Prim.Native.Nat.{ℕ, _<_, _≤_}
-use Rattle.meaning.specs.Outcome.{Outcome, done}
+use Rattle.meaning.specs.Outcome.{done}
 use Rattle.meaning.specs.NumberIntervals.{_∈_}
 use Rattle.meaning.specs.Sheet.{registers, Line}
 use Rattle.meaning.specs.Text.{cut, sheet, read}

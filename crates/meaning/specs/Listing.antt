@@ -2,18 +2,17 @@
 use lib.Dec.{ltb, eqb}
 use lib.IntN.{ℤ, pos, negsuc}
 use lib.ListN.{length}
-use mathlib.Core.Bool.{Bool, true, false, cond, _||_}
+use mathlib.Core.Bool.{Bool, false, cond, _||_}
 use mathlib.Core.List.{List, [], _∷_, _++_}
 use Prim.Native.Nat.{ℕ, zero, suc, _+_, _/_, _%_}
 use Prim.Native.Char.{code}
 use Rattle.meaning.specs.Refusals.{zeroDivisor}
 use Rattle.meaning.specs.Bytes.{bytes}
 use Rattle.meaning.specs.Outcome.{Outcome, done, stopped}
-use Rattle.meaning.specs.Interval.{Interval}
 use Rattle.meaning.specs.NumberIntervals.{Set}
-use Rattle.meaning.specs.Sheet.{registers, Act, put, hold, Line, input, act}
+use Rattle.meaning.specs.Sheet.{registers, put, hold, Line, input, act}
 use Rattle.meaning.specs.Text.{Read, sheet, noSheet, read}
-use Rattle.meaning.specs.Check.{Bands, at, check, shipLimit}
+use Rattle.meaning.specs.Check.{Bands, at, check, intervalLimit}
 
 -- ---- numbers in decimal
 
@@ -71,7 +70,7 @@ outcomeText ls (done B) = passLine (length ls) ++ registerLines ls (B .sets) 0 r
 outcomeText ls (stopped k l B) = troubleLine k l
 
 unfoldable pub readText : Read → List ℕ
-readText (sheet ls) = outcomeText ls (check shipLimit ls)
+readText (sheet ls) = outcomeText ls (check intervalLimit ls)
 readText (noSheet k l) = troubleLine k l
 
 unfoldable pub listing : List ℕ → List ℕ

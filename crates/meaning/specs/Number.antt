@@ -2,7 +2,7 @@
 use lib.IntN.{ℤ, pos, negsuc, negℤ, natAbs, sucℤ, predℤ, _+ℤ_, _-ℤ_, _*ℤ_}
 use lib.Signed.{leZ, ltZ, quotZ, remZ, _≤ℤ_}
 use lib.Dec.{eqb}
-use mathlib.Core.Bool.{Bool, true, false, not, cond, _&&_, _||_}
+use mathlib.Core.Bool.{Bool, false, not, cond, _&&_, _||_}
 use mathlib.Core.Option.{Option, none, some}
 use Prim.Native.Nat.{ℕ, _+_, _-_, _/_, _^_}
 

@@ -3,8 +3,8 @@
 use lib.IntN.{pos}
 use mathlib.Core.Path.{_≡_}
 use mathlib.Core.Bool.{true, false}
-use mathlib.Core.List.{List, [], _∷_, _++_}
-use mathlib.Core.Option.{Option, none, some}
+use mathlib.Core.List.{[], _++_}
+use mathlib.Core.Option.{none, some}
 use Prim.Native.Nat.{_-_, _^_}
 use Rattle.meaning.specs.Number.{minus, MIN, MAX, neg, abs, not′, add, sub, mul, div, rem, le, lt, ne, and, or, point1, point2, next, prev}
 use Rattle.meaning.specs.Interval.{span, only}

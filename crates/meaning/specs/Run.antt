@@ -4,7 +4,7 @@ use lib.IntN.{ℤ, pos}
 use lib.ListN.{length, getD, set, replicate}
 use mathlib.Core.Path.{_≡_}
 use mathlib.Core.Bool.{cond}
-use mathlib.Core.List.{List, [], _∷_}
+use mathlib.Core.List.{List}
 use Prim.Native.Nat.{ℕ, zero, suc}
 use Rattle.meaning.specs.Refusals.{tooShort, zeroDivisor, holdBroken, outsideIn}
 use Rattle.meaning.specs.Lists.{over, All}

@@ -2,8 +2,8 @@
 use lib.Dec.{ltb, eqb}
 use lib.IntN.{ℤ, pos}
 use lib.ListN.{length, replicate}
-use mathlib.Core.Bool.{Bool, true, false, cond}
-use mathlib.Core.List.{List, [], _∷_, _++_}
+use mathlib.Core.Bool.{Bool, false, cond}
+use mathlib.Core.List.{List, []}
 use Prim.Native.Nat.{ℕ, _*_, _/_}
 use Rattle.meaning.specs.Refusals.{notNormal, tooMany, tooShort, noRoom}
 use Rattle.meaning.specs.Lists.{over}

@@ -1,8 +1,7 @@
 -- Sheet (01, "Sheet"): forms and lines, as reading gives them. Assumes nothing.
 use lib.IntN.{ℤ}
-use lib.Signed.{leZ, ltZ, _≤ℤ_}
-use mathlib.Core.Bool.{Bool, true, false, not, _||_}
-use mathlib.Core.List.{List}
+use lib.Signed.{ltZ, _≤ℤ_}
+use mathlib.Core.Bool.{Bool, false, not, _||_}
 use Prim.Native.Nat.{ℕ, _<_}
 use Rattle.meaning.specs.Number.{MIN, MAX, within, InRange, Op1, Op2}
 

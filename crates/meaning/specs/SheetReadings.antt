@@ -16,7 +16,7 @@ use Rattle.meaning.specs.SetCalls.{refusal, refusal2, factor1, factor2, 
 use Rattle.meaning.specs.Sheet.{lit, reg, form1, form2, put, hold, act}
 use Rattle.meaning.specs.Text.{sheet, noSheet, read, lineAt, cut}
 use Rattle.meaning.specs.Run.{refused, worked, runText, verdict, runCall, leftBy, runLent}
-use Rattle.meaning.specs.Check.{startSets, settle, shipLimit, checkText, checkCall, slot, layout, setsLeftBy, workLeftBy}
+use Rattle.meaning.specs.Check.{startSets, settle, intervalLimit, checkText, checkCall, slot, layout, setsLeftBy, workLeftBy}
 
 -- n single numbers with one missing between neighbours, by their ends
 abbrev pub singles : ℕ → List ℤ
@@ -156,8 +156,8 @@ pub record SheetReadings : Type 0 where
   -- the limit itself is not over it
   pub at-the-limit : settle 1 (only (pos 1)) false ≡ ok (only (pos 1))
   pub over-the-limit : settle 1 (only (pos 1) ++ only (pos 5)) false ≡ stop 9
-  pub sixteen-settled : settle shipLimit (intervals (singles 16)) false ≡ ok (intervals (singles 16))
-  pub seventeen-crowded : settle shipLimit (intervals (singles 17)) false ≡ stop 9
+  pub sixteen-settled : settle intervalLimit (intervals (singles 16)) false ≡ ok (intervals (singles 16))
+  pub seventeen-crowded : settle intervalLimit (intervals (singles 17)) false ≡ stop 9
   -- left, right, form: with a limit of 1, (div 1 0) is 20 and (lt (reg 0) 1) is 9
   pub zero-first : verdict (checkText 1 (bytes "(in 0 0 2)\n(put 1 (add (div 1 0) (lt (reg 0) 1)))\n")) ≡ record { number = 20; line = 2; count = 0 }
   pub crowd-first : verdict (checkText 1 (bytes "(in 0 0 2)\n(put 1 (add (lt (reg 0) 1) (div 1 0)))\n")) ≡ record { number = 9; line = 2; count = 0 }

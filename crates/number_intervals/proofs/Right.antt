@@ -4,11 +4,10 @@ use mathlib.Core.Path.{_≡_, sym, ap, subst, _∙_}
 use mathlib.Core.Bool.{Bool, false}
 use mathlib.Core.Logic.{_⊎_}
 use mathlib.Core.List.{List, []}
-use Prim.Native.Nat.{ℕ}
 use Rattle.meaning.specs.Lists.{All}
 use Rattle.meaning.specs.Number.{InRange, Op1, Op2}
-use Rattle.meaning.specs.NumberIntervals.{Set, _∈_, union, intersect, set1, set2, flag1, flag2, intervals}
-use Rattle.meaning.specs.SetCalls.{Returned, factor1, factor2, need1, need2, refusal, refusal2, callReturns}
+use Rattle.meaning.specs.NumberIntervals.{_∈_, union, intersect, set1, set2, flag1, flag2, intervals}
+use Rattle.meaning.specs.SetCalls.{Returned, factor1, factor2, need1, need2, refusal, refusal2}
 use Rattle.meaning.specs.Demand2Calls.{Call1, Call2, CallJust}
 use Rattle.meaning.specs.Contracts.{Works1, Works2, Gives1, Gives2, Unites, Meets}
 use Rattle.laws.proofs.Members.{normal-proper}

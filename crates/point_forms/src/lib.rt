@@ -14,6 +14,8 @@ use forms::Op1;
 use forms::Op2;
 use forms::read_head;
 use forms::start;
+use limits::INNER;
+use limits::REGISTERS;
 use literals::Literal;
 use literals::Register;
 use literals::at;
@@ -21,6 +23,8 @@ use literals::read_literal;
 use literals::read_register;
 use literals::tail;
 use number::Maybe;
+use refusals::UNGRAMMATICAL;
+use refusals::ZERO_DIVISOR;
 
 // A value, or the number of what stopped it.
 pub enum Num {
@@ -50,7 +54,7 @@ fn divided(m: Maybe) -> Num
 {
     match m {
         Maybe::Is(x) => Num::Is(x),
-        Maybe::Nothing => Num::Stop(20),
+        Maybe::Nothing => Num::Stop(ZERO_DIVISOR),
     }
 }
 
@@ -98,7 +102,7 @@ fn closed(text: &[u8], i: usize, v: Num) -> Value
     requires { ⌜ i ≤ 18446744073709551614 ⌝ }
     ensures { λ r. ⌜ valueGot r ≡ closedAt (now (text .entry)) i (resOf v) ⌝ }
 {
-    if at(text, i) == 41 {
+    if at(text, i) == b')' {
         Value::Got(v, i + 1)
     } else {
         Value::Bad
@@ -106,10 +110,10 @@ fn closed(text: &[u8], i: usize, v: Num) -> Value
 }
 
 // The value of an argument, with `depth` brackets left.
-fn eval_arg(text: &[u8], depth: usize, state: &[i64; 16]) -> Value
+fn eval_arg(text: &[u8], depth: usize, state: &[i64; REGISTERS]) -> Value
     ensures { λ r. ⌜ valueGot r ≡ argAt (points (now (state .entry))) depth (now (text .entry)) ⌝ }
 {
-    if at(text, 0) == 40 {
+    if at(text, 0) == b'(' {
         if depth == 0 {
             Value::Bad
         } else {
@@ -124,7 +128,7 @@ fn eval_arg(text: &[u8], depth: usize, state: &[i64; 16]) -> Value
 }
 
 // The value of a form, with `depth` brackets left inside its own.
-fn eval_form(text: &[u8], depth: usize, state: &[i64; 16]) -> Value
+fn eval_form(text: &[u8], depth: usize, state: &[i64; REGISTERS]) -> Value
     ensures { λ r. ⌜ valueGot r ≡ formAt (points (now (state .entry))) depth (now (text .entry)) ⌝ }
 {
     let k = start(text);
@@ -139,7 +143,7 @@ fn eval_form(text: &[u8], depth: usize, state: &[i64; 16]) -> Value
         },
         Head::Two(op) => match eval_arg(tail(text, k), depth, state) {
             Value::Got(a, n) => {
-                if at(text, k + n) != 32 {
+                if at(text, k + n) != b' ' {
                     return Value::Bad;
                 }
                 let j = k + n + 1;
@@ -155,11 +159,11 @@ fn eval_form(text: &[u8], depth: usize, state: &[i64; 16]) -> Value
 }
 
 // The value of the form that starts at j.
-pub fn value_at(text: &[u8], j: usize, state: &[i64; 16]) -> Num
+pub fn value_at(text: &[u8], j: usize, state: &[i64; REGISTERS]) -> Num
     ensures { λ r. ⌜ resOf r ≡ putValue (argAt (points (now (state .entry))) 7 (drop j (now (text .entry)))) ⌝ }
 {
-    match eval_arg(tail(text, j), 7, state) {
+    match eval_arg(tail(text, j), INNER, state) {
         Value::Got(v, _) => v,
-        Value::Bad => Num::Stop(6),
+        Value::Bad => Num::Stop(UNGRAMMATICAL),
     }
 }

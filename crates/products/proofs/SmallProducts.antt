@@ -1,7 +1,7 @@
 -- Products of narrow intervals: the corners are in range and in window 0, so that the spread is the interval of the corners. Assumes nothing.
 use mathlib.Core.Path.{_≡_, sym, ap, ap₂, _∙_}
 use mathlib.Core.Bool.{true, false, _&&_}
-use Prim.Native.Nat.{suc, _*_, _≤_}
+use Prim.Native.Nat.{suc, _*_}
 use lib.IntN.{ℤ, pos, negsuc, _*ℤ_}
 use lib.Signed.{leZ, _≤ℤ_}
 use mir.Syntax.{w64}

@@ -1,4 +1,8 @@
 // What the public set calls share: their reply, the refusal of their arguments, the need of work, and the end of the call.
+use limits::ENDS;
+use refusals::NO_ROOM;
+use refusals::NOT_NORMAL;
+use refusals::TOO_MANY;
 use sets::is_normal;
 use slices::copy_front;
 use slices::zero_first;
@@ -24,13 +28,13 @@ pub enum Reply {
 pub fn refusal(s: &[i64]) -> u8
     ensures { λ r. ⌜ r ≡ call.refusal (now (s .entry)) ⌝ ∗ ⌜ (r ≡ 0 → Argument (now (s .entry))) ⌝ }
 {
-    if 32 < s.len() {
-        return 2;
+    if ENDS < s.len() {
+        return TOO_MANY;
     }
     if is_normal(s) {
         return 0;
     }
-    1
+    NOT_NORMAL
 }
 
 // The left set's refusal before the right set's.
@@ -60,7 +64,7 @@ pub fn hand_out(out: &mut [i64], work: &[i64], count: usize, flag: bool) -> Repl
         × (now (out .exit) ≡ cond (ltb (length (now (out .entry))) count) (now (out .entry)) (over (take count (now (work .entry))) (now (out .entry)))) ⌝ }
 {
     if out.len() < count {
-        return Reply::Refused(4);
+        return Reply::Refused(NO_ROOM);
     }
     copy_front(out, work, count);
     Reply::Written(count, flag)

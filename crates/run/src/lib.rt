@@ -7,6 +7,8 @@ ghost use Rattle.meaning.specs.Sheet.{registers};
 ghost use Rattle.meaning.specs.Run.{runText, leftBy};
 ghost use Rattle.sheet.specs.Judging.{IsSheet};
 ghost use Rattle.run.specs.Answer.{answerFor, Ran};
+use limits::REGISTERS;
+use refusals::TOO_SHORT;
 use run_lines::Step;
 use run_lines::run_line;
 use sheet::Judgement;
@@ -28,9 +30,9 @@ fn work(text: &[u8], lent: &mut [i64], count: usize) -> Answer
     ensures { λ r. ⌜ r ≡ answerFor (runText (now (lent .entry)) (now (text .entry))) ⌝ }
     ensures { λ r. ⌜ now (lent .exit) ≡ leftBy (now (lent .entry)) (runText (now (lent .entry)) (now (text .entry))) ⌝ }
 {
-    let mut given = [0; 16];
-    copy_front(&mut given, lent, 16);
-    let mut state = [0; 16];
+    let mut given = [0; REGISTERS];
+    copy_front(&mut given, lent, REGISTERS);
+    let mut state = [0; REGISTERS];
     let mut n: usize = 0;
     let mut at = 0;
     while at < text.len() {
@@ -38,12 +40,12 @@ fn work(text: &[u8], lent: &mut [i64], count: usize) -> Answer
         n += 1;
         let step = run_line(&text[at..e], &given, &mut state);
         if let Step::Stop(k) = step {
-            copy_front(lent, &state, 16);
+            copy_front(lent, &state, REGISTERS);
             return Answer::Stopped(k, n);
         }
         at = e + 1;
     }
-    copy_front(lent, &state, 16);
+    copy_front(lent, &state, REGISTERS);
     Answer::Done(count)
 }
 
@@ -51,8 +53,8 @@ fn work(text: &[u8], lent: &mut [i64], count: usize) -> Answer
 pub fn run(text: &[u8], lent: &mut [i64]) -> Answer
     ensures { λ r. ⌜ Ran (now (text .entry)) (now (lent .entry)) r (now (lent .exit)) ⌝ }
 {
-    if lent.len() < 16 {
-        return Answer::Refused(3, 0);
+    if lent.len() < REGISTERS {
+        return Answer::Refused(TOO_SHORT, 0);
     }
     match judge_text(text) {
         Judgement::Fine(n) => work(text, lent, n),

@@ -6,10 +6,13 @@ ghost use lib.ListN.{set};
 ghost use Rattle.meaning.specs.Number.{within as withinOf};
 ghost use Rattle.meaning.specs.Sheet.{registers};
 ghost use Rattle.run_lines.specs.Answer.{goIf, lineRun, Stepped};
+use limits::REGISTERS;
 use lines::LineForm;
 use lines::read_line;
 use point_forms::Num;
 use point_forms::value_at;
+use refusals::HOLD_BROKEN;
+use refusals::OUTSIDE_IN;
 
 // A line is worked, or stops with a number.
 pub enum Step {
@@ -31,7 +34,7 @@ fn go_if(good: bool, k: u8) -> Step
 }
 
 // Register r takes x if the line is worked; a line that stops leaves it.
-fn take(state: &mut [i64; 16], r: usize, x: i64, worked: bool)
+fn take(state: &mut [i64; REGISTERS], r: usize, x: i64, worked: bool)
     requires { ⌜ r < registers ⌝ }
     ensures { λ _. ⌜ now (state .exit) ≡ cond worked (set (now (state .entry)) r x) (now (state .entry)) ⌝ }
 {
@@ -41,7 +44,7 @@ fn take(state: &mut [i64; 16], r: usize, x: i64, worked: bool)
 }
 
 // One line on the state: a stop leaves the state as it was.
-pub fn run_line(text: &[u8], lent: &[i64; 16], state: &mut [i64; 16]) -> Step
+pub fn run_line(text: &[u8], lent: &[i64; REGISTERS], state: &mut [i64; REGISTERS]) -> Step
     ensures { λ r. ⌜ Stepped r (now (state .exit)) (now (state .entry)) (lineRun (now (lent .entry)) (now (state .entry)) (now (text .entry))) ⌝ }
 {
     match read_line(text) {
@@ -49,7 +52,7 @@ pub fn run_line(text: &[u8], lent: &[i64; 16], state: &mut [i64; 16]) -> Step
             let x = lent[r];
             let fits = within(lo, x, hi);
             take(state, r, x, fits);
-            go_if(fits, 22)
+            go_if(fits, OUTSIDE_IN)
         }
         LineForm::Put(r, j) => match value_at(text, j, state) {
             Num::Is(z) => {
@@ -58,7 +61,7 @@ pub fn run_line(text: &[u8], lent: &[i64; 16], state: &mut [i64; 16]) -> Step
             }
             Num::Stop(k) => Step::Stop(k),
         },
-        LineForm::Hold(r, lo, hi) => go_if(within(lo, state[r], hi), 21),
+        LineForm::Hold(r, lo, hi) => go_if(within(lo, state[r], hi), HOLD_BROKEN),
         LineForm::Refused(k) => Step::Stop(k),
     }
 }

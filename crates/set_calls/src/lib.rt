@@ -2,6 +2,7 @@
 use bools::BoolInterval;
 use cores::Op;
 use cores::Relation;
+use refusals::TOO_SHORT;
 use replies::Reply;
 use replies::finish;
 use replies::hand_out;
@@ -56,7 +57,7 @@ pub fn joined(
     }
     let needed = need(cores::rule::factor(op), left.len(), right.len());
     if work.len() < needed {
-        return Reply::Refused(3);
+        return Reply::Refused(TOO_SHORT);
     }
     let c = cores::answer(op, work, whole(left), flag, whole(right));
     let n = c.count;

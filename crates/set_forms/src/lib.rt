@@ -2,6 +2,7 @@
 use forms::Head;
 use literals::Literal;
 use literals::Register;
+use refusals::UNGRAMMATICAL;
 use set_values::SetV;
 ghost use mathlib.Core.Path.{_≡_};
 ghost use Prim.Native.Nat.{_≤_};
@@ -20,7 +21,7 @@ pub struct SetRead {
 fn unread() -> SetRead
     ensures { λ r. ⌜ readOf r ≡ bad ⌝ }
 {
-    let v = set_values::stopped(6);
+    let v = set_values::stopped(UNGRAMMATICAL);
     SetRead {
         good: false,
         next: 0,
@@ -43,7 +44,7 @@ fn closed(text: &[u8], i: usize, v: SetV) -> SetRead
     requires { ⌜ i ≤ 18446744073709551614 ⌝ }
     ensures { λ r. ⌜ readOf r ≡ closedAt (now (text .entry)) i v ⌝ }
 {
-    if literals::at(text, i) == 41 {
+    if literals::at(text, i) == b')' {
         taken(i + 1, v)
     } else {
         unread()
@@ -55,7 +56,7 @@ pub fn set_arg(text: &[u8], depth: usize, regs: &[i64], work: &mut [i64]) -> Set
     requires { ⌜ Shown (now regs) × (8192 ≤ length (now work)) ⌝ }
     ensures { λ r. ⌜ readOf r ≡ argAt (values (now (regs .entry))) depth (now (text .entry)) ⌝ }
 {
-    if literals::at(text, 0) == 40 {
+    if literals::at(text, 0) == b'(' {
         if depth == 0 {
             unread()
         } else {
@@ -95,7 +96,7 @@ fn set_form(text: &[u8], depth: usize, regs: &[i64], work: &mut [i64]) -> SetRea
                 return a;
             }
             let n = a.next;
-            if literals::at(text, k + n) != 32 {
+            if literals::at(text, k + n) != b' ' {
                 return unread();
             }
             let j = k + n + 1;

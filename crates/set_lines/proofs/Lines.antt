@@ -13,7 +13,7 @@ use Rattle.meaning.specs.Interval.{span, only}
 use Rattle.meaning.specs.NumberIntervals.{Set, set1, set2, flag1, flag2, intervals}
 use Rattle.meaning.specs.Sheet.{registers, Form, lit, reg, form1, form2, put, hold, input, act, FineForm, FineAct, FineLine}
 use Rattle.meaning.specs.Reading.{Got, got, bad, arg, tree, readLine}
-use Rattle.meaning.specs.Check.{Bands, at, inside, settle, give, setOf, checkAct, checkLine, slot, layout, setIn, shipLimit}
+use Rattle.meaning.specs.Check.{Bands, at, inside, settle, give, setOf, checkAct, checkLine, slot, layout, setIn, intervalLimit}
 use Rattle.meaning.specs.CheckSets.{SoundBands}
 use Rattle.laws.proofs.Flat.{intervals-flat}
 use Rattle.laws.proofs.Fine.{read-line-fine}
@@ -35,7 +35,7 @@ use Rattle.set_values.proofs.Shows.{slot-given, set-at, sound-in, part-sound}
 use Rattle.set_forms.proofs.Reading.{read-bad, read-good}
 
 -- the numbers l show the sets of B
-module _ {l : List ℤ} (B : Bands) (h : SoundBands shipLimit B) (e : l ≡ layout (B .sets)) where
+module _ {l : List ℤ} (B : Bands) (h : SoundBands intervalLimit B) (e : l ≡ layout (B .sets)) where
   abbrev shown : Shown l
   shown = record { sets = B .sets; is = e; sound = h }
 
@@ -46,11 +46,11 @@ module _ {l : List ℤ} (B : Bands) (h : SoundBands shipLimit B) (e : l ≡ layo
   -- ---- the set of a form
 
   abbrev Same : Form → SetV → Type 0
-  Same f v = FineForm f → (v ≡ valueOf (setOf shipLimit (B .sets) f)) × SoundResult (setOf shipLimit (B .sets) f)
+  Same f v = FineForm f → (v ≡ valueOf (setOf intervalLimit (B .sets) f)) × SoundResult (setOf intervalLimit (B .sets) f)
 
   same-literal : (z : ℤ) → Same (lit z) (valueOf (ok (only (kept z))))
   unfolding setOf FineForm
-  same-literal z w = (ap (λ (x : ℤ). valueOf (ok (only x))) (kept-same z w), only-sound demand2 shipLimit (omega arith) z w)
+  same-literal z w = (ap (λ (x : ℤ). valueOf (ok (only x))) (kept-same z w), only-sound demand2 intervalLimit (omega arith) z w)
 
   same-register : (r : ℕ) → r < registers → Same (reg r) (valueOf (ok (setIn l r)))
   unfolding setOf
@@ -60,8 +60,8 @@ module _ {l : List ℤ} (B : Bands) (h : SoundBands shipLimit B) (e : l ≡ layo
   unfolding setOf FineForm answer1
   same-one o f v p w =
       let q = p w in (
-        ap (λ (x : Res Set). valueOf (bind x (λ s. settle shipLimit (set1 o s) (flag1 o false)))) (ap resultOf (q .0) ∙ result-back (setOf shipLimit (B .sets) f) (q .1)),
-        one-sound o (setOf shipLimit (B .sets) f) (q .1),
+        ap (λ (x : Res Set). valueOf (bind x (λ s. settle intervalLimit (set1 o s) (flag1 o false)))) (ap resultOf (q .0) ∙ result-back (setOf intervalLimit (B .sets) f) (q .1)),
+        one-sound o (setOf intervalLimit (B .sets) f) (q .1),
       )
 
   same-two : (o : Op2) (f g : Form) (v w : SetV) → Same f v → Same g w → Same (form2 o f g) (answer2 o v w)
@@ -69,19 +69,19 @@ module _ {l : List ℤ} (B : Bands) (h : SoundBands shipLimit B) (e : l ≡ layo
   same-two o f g v w p p′ i =
       let q = p (i .0) in
       let q′ = p′ (i .1) in
-      let x = ap resultOf (q .0) ∙ result-back (setOf shipLimit (B .sets) f) (q .1) in
-      let y = ap resultOf (q′ .0) ∙ result-back (setOf shipLimit (B .sets) g) (q′ .1) in (
-        (λ j. valueOf (bind (x j) (λ s. bind (y j) (λ t. settle shipLimit (set2 o s t) (flag2 o false s t))))),
-        two-sound o (setOf shipLimit (B .sets) f) (setOf shipLimit (B .sets) g) (q .1) (q′ .1),
+      let x = ap resultOf (q .0) ∙ result-back (setOf intervalLimit (B .sets) f) (q .1) in
+      let y = ap resultOf (q′ .0) ∙ result-back (setOf intervalLimit (B .sets) g) (q′ .1) in (
+        (λ j. valueOf (bind (x j) (λ s. bind (y j) (λ t. settle intervalLimit (set2 o s t) (flag2 o false s t))))),
+        two-sound o (setOf intervalLimit (B .sets) f) (setOf intervalLimit (B .sets) g) (q .1) (q′ .1),
       )
 
   pub form-value : (d : ℕ) (t : List ℕ) {f : Form} {n : ℕ} → arg tree d t ≡ got f n → FineForm f
-      → (putValue (arg (values l) d t) ≡ valueOf (setOf shipLimit (B .sets) f)) × SoundResult (setOf shipLimit (B .sets) f)
+      → (putValue (arg (values l) d t) ≡ valueOf (setOf intervalLimit (B .sets) f)) × SoundResult (setOf intervalLimit (B .sets) f)
   form-value d t {f} {n} a w =
       go (arg (values l) d t)
       (subst (λ (g : Got Form). Related Same g (arg (values l) d t)) a (rel-arg Same tree (values l) same-literal same-register same-one (λ o f f′ v v′ p q. same-two o f f′ v v′ p q) d t))
     where
-      go : (g : Got SetV) → Related Same (got f n) g → (putValue g ≡ valueOf (setOf shipLimit (B .sets) f)) × SoundResult (setOf shipLimit (B .sets) f)
+      go : (g : Got SetV) → Related Same (got f n) g → (putValue g ≡ valueOf (setOf intervalLimit (B .sets) f)) × SoundResult (setOf intervalLimit (B .sets) f)
       go (got v m) p = p .0 w
       go bad p = absurd p
 
@@ -113,7 +113,7 @@ module _ (s : List ℕ) {r : ℕ} {lo hi : ℤ} where
   pub hold-worked : {before after : List ℤ} → ok (act (hold r lo hi)) ≡ readLine s → {k : ℕ} → k ≡ holdNumber (inside lo (setIn before r) hi) → after ≡ before → Worked k after before s
   hold-worked {before} {after} e {k} ek a = go (inside lo (setIn before r) hi) refl
     where
-      there : (B : Bands) → SoundBands shipLimit B → before ≡ layout (B .sets) → inside lo (at (B .sets) r) hi ≡ inside lo (setIn before r) hi
+      there : (B : Bands) → SoundBands intervalLimit B → before ≡ layout (B .sets) → inside lo (at (B .sets) r) hi ≡ inside lo (setIn before r) hi
       there B h b = ap (λ (x : Set). inside lo x hi) (sym (set-at (record { sets = B .sets; is = b; sound = h }) r (hold-there e)))
 
       go : (t : Bool) → inside lo (setIn before r) hi ≡ t → Worked k after before s
@@ -144,36 +144,36 @@ module _ (s : List ℕ) (r j : ℕ) (e : lineFrom s (line.Put r j) ≡ readLine 
   pub put-there : r < registers
   put-there = put-fine .0
 
-  put-is : (B : Bands) {x : Res Set} → setOf shipLimit (B .sets) (read-put .0) ≡ x → lineCheck B s ≡ bind x (λ q. ok (give B r q))
+  put-is : (B : Bands) {x : Res Set} → setOf intervalLimit (B .sets) (read-put .0) ≡ x → lineCheck B s ≡ bind x (λ q. ok (give B r q))
   unfolding lineCheck bind checkLine checkAct
   put-is B d = rw (read-put .3) (ap (λ (x : Res Set). bind x (λ q. ok (give B r q))) d)
 
   module _ (before after : List ℤ) {v : SetV} (ev : v ≡ putValue (arg (values before) 7 (drop j s))) where
-    put-value : (B : Bands) → SoundBands shipLimit B → before ≡ layout (B .sets) → (v ≡ valueOf (setOf shipLimit (B .sets) (read-put .0))) × SoundResult (setOf shipLimit (B .sets) (read-put .0))
+    put-value : (B : Bands) → SoundBands intervalLimit B → before ≡ layout (B .sets) → (v ≡ valueOf (setOf intervalLimit (B .sets) (read-put .0))) × SoundResult (setOf intervalLimit (B .sets) (read-put .0))
     put-value B h b = let f = form-value B h b 7 (drop j s) (read-put .2) (put-fine .1) in (ev ∙ f .0, f .1)
 
-    module _ (B : Bands) (h : SoundBands shipLimit B) (b : before ≡ layout (B .sets)) where
-      goes-by : (x : Res Set) → setOf shipLimit (B .sets) (read-put .0) ≡ x → v ≡ valueOf x → SoundResult x → v .stop ≡ 0 → after ≡ given r v before
+    module _ (B : Bands) (h : SoundBands intervalLimit B) (b : before ≡ layout (B .sets)) where
+      goes-by : (x : Res Set) → setOf intervalLimit (B .sets) (read-put .0) ≡ x → v ≡ valueOf x → SoundResult x → v .stop ≡ 0 → after ≡ given r v before
           → (B′ : Bands) × (lineCheck B s ≡ ok B′) × (after ≡ layout (B′ .sets))
       unfolding bind
       goes-by (ok q) d w n z a = (give B r q, put-is B d, a ∙ ap (λ (y : SetV). given r y before) w ∙ given-layout B h b r q put-there)
       goes-by (stop k) d w n z a = absurd (n (sym (ap (λ (y : SetV). y .stop) w) ∙ z))
 
-      stops-by : (x : Res Set) → setOf shipLimit (B .sets) (read-put .0) ≡ x → v ≡ valueOf x → (v .stop ≡ 0 → ⊥) → lineCheck B s ≡ stop (v .stop)
+      stops-by : (x : Res Set) → setOf intervalLimit (B .sets) (read-put .0) ≡ x → v ≡ valueOf x → (v .stop ≡ 0 → ⊥) → lineCheck B s ≡ stop (v .stop)
       unfolding bind
       stops-by (ok q) d w z = absurd (z (ap (λ (y : SetV). y .stop) w))
       stops-by (stop k) d w z = put-is B d ∙ ap (λ (n : ℕ). stop n) (sym (ap (λ (y : SetV). y .stop) w))
 
     pub put-worked : v .stop ≡ 0 → after ≡ given r v before → Worked (v .stop) after before s
     put-worked z a = record {
-      goes = λ _ B h b. let p = put-value B h b in goes-by B h b (setOf shipLimit (B .sets) (read-put .0)) refl (p .0) (p .1) z a;
+      goes = λ _ B h b. let p = put-value B h b in goes-by B h b (setOf intervalLimit (B .sets) (read-put .0)) refl (p .0) (p .1) z a;
       stops = λ n. absurd (n z);
     }
 
     pub put-stopped : (v .stop ≡ 0 → ⊥) → after ≡ before → Worked (v .stop) after before s
     put-stopped n a = record {
       goes = λ z. absurd (n z);
-      stops = λ _ B h b. let p = put-value B h b in stops-by B h b (setOf shipLimit (B .sets) (read-put .0)) refl (p .0) n;
+      stops = λ _ B h b. let p = put-value B h b in stops-by B h b (setOf intervalLimit (B .sets) (read-put .0)) refl (p .0) n;
     }
 
 -- ---- what the code has at hand

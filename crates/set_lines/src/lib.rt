@@ -1,7 +1,13 @@
 // One line of a sheet on the sets of the registers (01, "Sheet"): 528 numbers, for each register how many intervals its set has and 32 for their ends.
+use limits::ENDS;
+use limits::INNER;
+use limits::REGISTERS;
+use limits::SLOT;
 use lines::LineForm;
 use lines::read_line;
 use literals::tail;
+use refusals::HOLD_BROKEN;
+use refusals::UNGRAMMATICAL;
 use set_forms::set_arg;
 use set_values::SetV;
 use set_values::one_interval;
@@ -34,12 +40,12 @@ fn give(regs: &mut [i64], r: usize, v: SetV)
     requires { ⌜ (length (now regs) ≡ setsNeed) × (r < registers) × (v .count ≤ 16) × (length (v .ends) ≡ 32) ⌝ }
     ensures { λ _. ⌜ now (regs .exit) ≡ given r v (now (regs .entry)) ⌝ }
 {
-    let k = 33 * r;
+    let k = SLOT * r;
     let j = k + 1;
     let n = v.count;
     let ends = v.ends;
     regs[k] = slot_count(n);
-    copy_front(&mut regs[j..], &ends, 32);
+    copy_front(&mut regs[j..], &ends, ENDS);
 }
 
 // The interval at i lies from lo to hi.
@@ -76,7 +82,11 @@ fn hold(regs: &[i64], r: usize, lo: i64, hi: i64) -> u8
     let v = register_set(regs, r);
     let n = 2 * v.count;
     let ends = v.ends;
-    if inside(lo, &ends[..n], hi) { 0 } else { 21 }
+    if inside(lo, &ends[..n], hi) {
+        0
+    } else {
+        HOLD_BROKEN
+    }
 }
 
 // The set of the form that starts at j.
@@ -84,9 +94,9 @@ fn value_at(text: &[u8], j: usize, regs: &[i64], work: &mut [i64]) -> SetV
     requires { ⌜ Shown (now regs) × (8192 ≤ length (now work)) ⌝ }
     ensures { λ v. ⌜ v ≡ putValue (argAt (values (now (regs .entry))) 7 (drop j (now (text .entry)))) ⌝ }
 {
-    let a = set_arg(tail(text, j), 7, regs, work);
+    let a = set_arg(tail(text, j), INNER, regs, work);
     if !a.good {
-        return stopped(6);
+        return stopped(UNGRAMMATICAL);
     }
     let v = a.value;
     v
@@ -121,8 +131,8 @@ pub fn start(regs: &mut [i64])
     ensures { λ _. ⌜ now (regs .exit) ≡ layout (startSets .sets) ⌝ }
 {
     let mut i = 0;
-    while i < 16 {
-        regs[33 * i] = 1;
+    while i < REGISTERS {
+        regs[SLOT * i] = 1;
         i += 1;
     }
 }

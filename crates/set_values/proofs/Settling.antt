@@ -2,7 +2,7 @@
 use mathlib.Core.Path.{_≡_, refl, sym, ap, _∙_}
 use mathlib.Core.Bool.{Bool, true, false}
 use mathlib.Core.List.{List, _++_}
-use Prim.Native.Nat.{ℕ, zero, suc, _+_, _-_, _*_, _/_, _%_, _≤_, _<_}
+use Prim.Native.Nat.{ℕ, zero, suc, _-_, _*_, _/_, _%_, _≤_, _<_}
 use native.Mathlib.Omega.{arith}
 use lib.IntN.{ℤ, pos}
 use lib.ListN.{length, take, drop, replicate}
@@ -13,7 +13,7 @@ use Rattle.meaning.specs.Lists.{over}
 use Rattle.meaning.specs.Outcome.{Res, stop, bind}
 use Rattle.meaning.specs.Number.{Op1, Op2}
 use Rattle.meaning.specs.NumberIntervals.{Set, set1, set2, flag1, flag2, flat, intervals}
-use Rattle.meaning.specs.Check.{settle, shipLimit}
+use Rattle.meaning.specs.Check.{settle, intervalLimit}
 use Rattle.laws.proofs.Flat.{intervals-flat, even-flat, length-flat, length-intervals}
 use Rattle.laws.proofs.Over.{take-over}
 use Rattle.slices.specs.Wrote.{Wrote}
@@ -38,15 +38,15 @@ module _ (work : List ℤ) (count : ℕ) (flag : Bool) (fits : count ≤ length 
   size = length-intervals ends ∙ ap (λ (n : ℕ). n / 2) (length-take-le count work fits)
 
   abbrev Judged : SetV → Type 0
-  Judged v = v ≡ valueOf (settle shipLimit (intervals ends) flag)
+  Judged v = v ≡ valueOf (settle intervalLimit (intervals ends) flag)
 
   pub settle-crowded : 32 < count → Judged (valueOf (stop crowded))
   unfolding settle
-  settle-crowded h = let e = lt-ltb shipLimit (length (intervals ends)) (omega (arith, size)) in rw e
+  settle-crowded h = let e = lt-ltb intervalLimit (length (intervals ends)) (omega (arith, size)) in rw e
 
   pub settle-flagged : count ≤ 32 → flag ≡ true → Judged (valueOf (stop zeroDivisor))
   unfolding settle
-  settle-flagged h f = let e = le-ltb shipLimit (length (intervals ends)) (omega (arith, size)) in rw (e, f)
+  settle-flagged h f = let e = le-ltb intervalLimit (length (intervals ends)) (omega (arith, size)) in rw (e, f)
 
   padded-ends : over ends (replicate 32 (pos 0)) ≡ padded (intervals ends)
   unfolding over padded
@@ -57,7 +57,7 @@ module _ (work : List ℤ) (count : ℕ) (flag : Bool) (fits : count ≤ length 
   pub settle-fine : count ≤ 32 → flag ≡ false → {l : List ℤ} → l ≡ over ends (replicate 32 (pos 0)) → Judged (record { stop = 0; count = count / 2; ends = l })
   unfolding settle
   settle-fine h f {l} el =
-      let e = le-ltb shipLimit (length (intervals ends)) (omega (arith, size)) in
+      let e = le-ltb intervalLimit (length (intervals ends)) (omega (arith, size)) in
       rw (e, f) (λ i. record { stop = 0; count = sym size i; ends = (el ∙ padded-ends) i })
 
 -- ---- what is left
@@ -77,8 +77,8 @@ module _ {s : Set} {flag : Bool} {new : List ℤ} {c : Core} (h : Left s flag ne
   pub left-even : c .count % 2 ≡ 0
   left-even = omega (arith, h .count, length-flat s)
 
-  left-judged : {v : SetV} → v ≡ valueOf (settle shipLimit (intervals (take (c .count) new)) (c .flag)) → v ≡ valueOf (settle shipLimit s flag)
-  left-judged e = e ∙ (λ i. valueOf (settle shipLimit ((ap intervals (h .front) ∙ intervals-flat s) i) (h .flagged i)))
+  left-judged : {v : SetV} → v ≡ valueOf (settle intervalLimit (intervals (take (c .count) new)) (c .flag)) → v ≡ valueOf (settle intervalLimit s flag)
+  left-judged e = e ∙ (λ i. valueOf (settle intervalLimit ((ap intervals (h .front) ∙ intervals-flat s) i) (h .flagged i)))
 
 -- ---- a form of one argument
 
@@ -87,22 +87,22 @@ module _ (o : Op1) {a : SetV} (h : Sound a) where
   unfolding answer1 bind
   answer1-troubled n =
       let t = troubled h n in
-      h .is ∙ ap valueOf (t .1) ∙ sym (ap (λ (x : Res Set). valueOf (bind x (λ s. settle shipLimit (set1 o s) (flag1 o false)))) (result-of h ∙ t .1))
+      h .is ∙ ap valueOf (t .1) ∙ sym (ap (λ (x : Res Set). valueOf (bind x (λ s. settle intervalLimit (set1 o s) (flag1 o false)))) (result-of h ∙ t .1))
 
   module _ (z : a .stop ≡ 0) where
     abbrev ends1 : List ℤ
     ends1 = take (2 * a .count) (a .ends)
 
     pub answer1-is : {new : List ℤ} {c : Core} {v : SetV} → Left (set1 o (intervals ends1)) (flag1 o false) new c
-        → v ≡ valueOf (settle shipLimit (intervals (take (c .count) new)) (c .flag)) → v ≡ answer1 o a
+        → v ≡ valueOf (settle intervalLimit (intervals (take (c .count) new)) (c .flag)) → v ≡ answer1 o a
     unfolding answer1 bind
-    answer1-is l e = left-judged l e ∙ sym (ap (λ (x : Res Set). valueOf (bind x (λ s. settle shipLimit (set1 o s) (flag1 o false)))) (result-set h z))
+    answer1-is l e = left-judged l e ∙ sym (ap (λ (x : Res Set). valueOf (bind x (λ s. settle intervalLimit (set1 o s) (flag1 o false)))) (result-set h z))
 
 -- ---- a form of two
 
 module _ (o : Op2) {a b : SetV} (h : Sound a) (k : Sound b) where
   abbrev both : Res Set → Res Set → SetV
-  both x y = valueOf (bind x (λ s. bind y (λ t. settle shipLimit (set2 o s t) (flag2 o false s t))))
+  both x y = valueOf (bind x (λ s. bind y (λ t. settle intervalLimit (set2 o s t) (flag2 o false s t))))
 
   pub answer2-left : (a .stop ≡ 0 → ⊥) → a ≡ answer2 o a b
   unfolding answer2 bind
@@ -120,6 +120,6 @@ module _ (o : Op2) {a b : SetV} (h : Sound a) (k : Sound b) where
     pub answer2-is : (y : b .stop ≡ 0) {new : List ℤ} {c : Core} {v : SetV}
         → Left (set2 o (intervals (take (2 * a .count) (a .ends))) (intervals (take (2 * b .count) (b .ends))))
         (flag2 o false (intervals (take (2 * a .count) (a .ends))) (intervals (take (2 * b .count) (b .ends)))) new c
-        → v ≡ valueOf (settle shipLimit (intervals (take (c .count) new)) (c .flag)) → v ≡ answer2 o a b
+        → v ≡ valueOf (settle intervalLimit (intervals (take (c .count) new)) (c .flag)) → v ≡ answer2 o a b
     unfolding answer2 bind
     answer2-is y l e = left-judged l e ∙ sym (λ i. both (result-set h z i) (result-set k y i))

@@ -15,7 +15,7 @@ use Rattle.meaning.specs.Interval.{only}
 use Rattle.meaning.specs.NumberIntervals.{Set}
 use Rattle.meaning.specs.Sheet.{registers}
 use Rattle.meaning.specs.Reading.{Got, got, arg}
-use Rattle.meaning.specs.Check.{at, slotSize, slot, layout, setIn, setsNeed, shipLimit}
+use Rattle.meaning.specs.Check.{at, slotSize, slot, layout, setIn, setsNeed, intervalLimit}
 use Rattle.meaning.specs.CheckSets.{SoundSet}
 use Rattle.laws.proofs.Integers.{zarith}
 use Rattle.laws.proofs.Over.{mid-tail}
@@ -99,7 +99,7 @@ module _ {l : List ℤ} (h : Shown l) where
         drop-one [] = refl
         drop-one (a ∷ x) = refl
 
-    pub sound-in : SoundSet shipLimit (setIn l r)
+    pub sound-in : SoundSet intervalLimit (setIn l r)
     sound-in = rw set-at (h .sound .each r)
 
     pub register-sound : Sound (valueOf (ok (setIn l r)))

@@ -15,7 +15,7 @@ use Rattle.meaning.specs.Number.{MIN, MAX, within, InRange, Op1, Op2}
 use Rattle.meaning.specs.Interval.{span, only}
 use Rattle.meaning.specs.NumberIntervals.{Set, set1, set2, flag1, flag2, flat, intervals}
 use Rattle.meaning.specs.Sheet.{beyond}
-use Rattle.meaning.specs.Check.{settle, shipLimit}
+use Rattle.meaning.specs.Check.{settle, intervalLimit}
 use Rattle.meaning.specs.CheckSets.{SoundSet}
 use Rattle.laws.proofs.Integers.{zarith, by-test, from-within, between-within}
 use Rattle.laws.proofs.Flat.{intervals-flat, flat-normal, length-flat}
@@ -44,45 +44,45 @@ result-of h = ap resultOf (h .is) ∙ result-back (h .result) (h .sound)
 -- ---- an operation's answer
 
 -- trouble has a number, 9 or 20
-settle-number : (s : Set) (flag : Bool) {k : ℕ} → settle shipLimit s flag ≡ stop k → k ≡ 0 → ⊥
+settle-number : (s : Set) (flag : Bool) {k : ℕ} → settle intervalLimit s flag ≡ stop k → k ≡ 0 → ⊥
 unfolding settle
-settle-number s flag {k} e z = go (ltb shipLimit (length s)) flag (e ∙ ap (λ (n : ℕ). stop n) z)
+settle-number s flag {k} e z = go (ltb intervalLimit (length s)) flag (e ∙ ap (λ (n : ℕ). stop n) z)
   where
     go : (a b : Bool) → cond a (stop crowded) (cond b (stop zeroDivisor) (ok s)) ≡ stop 0 → ⊥
     go true b e = let x : crowded ≡ 0 = cc in omega arith
     go false true e = let x : zeroDivisor ≡ 0 = cc in omega arith
     go false false e = let x : _≡_ {A = ℕ} 0 1 = cc in omega arith
 
-settled-sound : (x : Res Set) → ((s : Set) → x ≡ ok s → SoundSet shipLimit s) → ((k : ℕ) → x ≡ stop k → k ≡ 0 → ⊥) → SoundResult x
+settled-sound : (x : Res Set) → ((s : Set) → x ≡ ok s → SoundSet intervalLimit s) → ((k : ℕ) → x ≡ stop k → k ≡ 0 → ⊥) → SoundResult x
 settled-sound (ok s) f g = f s refl
 settled-sound (stop k) f g = g k refl
 
-pub one-sound : (o : Op1) (x : Res Set) → SoundResult x → SoundResult (bind x (λ s. settle shipLimit (set1 o s) (flag1 o false)))
+pub one-sound : (o : Op1) (x : Res Set) → SoundResult x → SoundResult (bind x (λ s. settle intervalLimit (set1 o s) (flag1 o false)))
 unfolding bind
 one-sound o (ok s) h =
-    settled-sound (settle shipLimit (set1 o s) (flag1 o false)) (λ _ e. form1-sound demand2 shipLimit (omega arith) o s h e) (λ _ e. settle-number (set1 o s) (flag1 o false) e)
+    settled-sound (settle intervalLimit (set1 o s) (flag1 o false)) (λ _ e. form1-sound demand2 intervalLimit (omega arith) o s h e) (λ _ e. settle-number (set1 o s) (flag1 o false) e)
 one-sound o (stop k) h = h
 
-pub two-sound : (o : Op2) (x y : Res Set) → SoundResult x → SoundResult y → SoundResult (bind x (λ s. bind y (λ t. settle shipLimit (set2 o s t) (flag2 o false s t))))
+pub two-sound : (o : Op2) (x y : Res Set) → SoundResult x → SoundResult y → SoundResult (bind x (λ s. bind y (λ t. settle intervalLimit (set2 o s t) (flag2 o false s t))))
 unfolding bind
 two-sound o (ok s) (ok t) h k =
-    settled-sound (settle shipLimit (set2 o s t) (flag2 o false s t)) (λ _ e. form2-sound demand2 shipLimit (omega arith) o s t h k e) (λ _ e. settle-number (set2 o s t) (flag2 o false s t) e)
+    settled-sound (settle intervalLimit (set2 o s t) (flag2 o false s t)) (λ _ e. form2-sound demand2 intervalLimit (omega arith) o s t h k e) (λ _ e. settle-number (set2 o s t) (flag2 o false s t) e)
 two-sound o (ok s) (stop k) h n = n
 two-sound o (stop k) y h n = h
 
 pub answer1-sound : (o : Op1) {a : SetV} → Sound a → Sound (answer1 o a)
 unfolding answer1
 answer1-sound o h = record {
-  result = bind (h .result) (λ s. settle shipLimit (set1 o s) (flag1 o false));
-  is = ap (λ (x : Res Set). valueOf (bind x (λ s. settle shipLimit (set1 o s) (flag1 o false)))) (result-of h);
+  result = bind (h .result) (λ s. settle intervalLimit (set1 o s) (flag1 o false));
+  is = ap (λ (x : Res Set). valueOf (bind x (λ s. settle intervalLimit (set1 o s) (flag1 o false)))) (result-of h);
   sound = one-sound o (h .result) (h .sound);
 }
 
 pub answer2-sound : (o : Op2) {a b : SetV} → Sound a → Sound b → Sound (answer2 o a b)
 unfolding answer2
 answer2-sound o h k = record {
-  result = bind (h .result) (λ s. bind (k .result) (λ t. settle shipLimit (set2 o s t) (flag2 o false s t)));
-  is = λ i. valueOf (bind (result-of h i) (λ s. bind (result-of k i) (λ t. settle shipLimit (set2 o s t) (flag2 o false s t))));
+  result = bind (h .result) (λ s. bind (k .result) (λ t. settle intervalLimit (set2 o s t) (flag2 o false s t)));
+  is = λ i. valueOf (bind (result-of h i) (λ s. bind (result-of k i) (λ t. settle intervalLimit (set2 o s t) (flag2 o false s t))));
   sound = two-sound o (h .result) (k .result) (h .sound) (k .sound);
 }
 
@@ -96,7 +96,7 @@ unfolding kept
 kept-in-range z = by-test (beyond z) (λ e. rw e zero-in-range) (λ e. rw e (from-within MIN z MAX (not-false (within MIN z MAX) e)))
 
 pub literal-sound : (z : ℤ) → Sound (valueOf (ok (only (kept z))))
-literal-sound z = record { result = ok (only (kept z)); is = refl; sound = only-sound demand2 shipLimit (omega arith) (kept z) (kept-in-range z) }
+literal-sound z = record { result = ok (only (kept z)); is = refl; sound = only-sound demand2 intervalLimit (omega arith) (kept z) (kept-in-range z) }
 
 pub kept-same : (z : ℤ) → InRange z → kept z ≡ z
 unfolding kept
@@ -127,10 +127,10 @@ module _ {a : SetV} (h : Sound a) where
       go (stop k) e = (k, refl)
 
   -- its set
-  pub settled : a .stop ≡ 0 → (s : Set) × (h .result ≡ ok s) × SoundSet shipLimit s
+  pub settled : a .stop ≡ 0 → (s : Set) × (h .result ≡ ok s) × SoundSet intervalLimit s
   settled z = go (h .result) (h .is) (h .sound)
     where
-      go : (x : Res Set) → a ≡ valueOf x → SoundResult x → (s : Set) × (x ≡ ok s) × SoundSet shipLimit s
+      go : (x : Res Set) → a ≡ valueOf x → SoundResult x → (s : Set) × (x ≡ ok s) × SoundSet intervalLimit s
       go (ok s) e w = (s, refl, w)
       go (stop k) e w = absurd (w (sym (ap (λ (v : SetV). v .stop) e) ∙ z))
 

@@ -12,7 +12,7 @@ use Rattle.meaning.specs.Number.{Op1, Op2, add, sub, mul, div, rem}
 use Rattle.meaning.specs.Interval.{only}
 use Rattle.meaning.specs.NumberIntervals.{Set, set1, set2, flag1, flag2, flat, intervals}
 use Rattle.meaning.specs.Reading.{Algebra}
-use Rattle.meaning.specs.Check.{settle, slotSize, layout, setIn, shipLimit}
+use Rattle.meaning.specs.Check.{settle, slotSize, layout, setIn, intervalLimit}
 use Rattle.meaning.specs.CheckSets.{SoundSet, SoundBands}
 use Rattle.literals.specs.Answer.{kept}
 use Rattle.cores.specs.declared.Core.{Core}
@@ -37,7 +37,7 @@ resultOf v = cond (eqb (v .stop) 0) (ok (intervals (take (2 * v .count) (v .ends
 
 -- trouble has a number; a set is normal, not empty, and of at most 16 intervals
 abbrev pub SoundResult : Res Set → Type 0
-SoundResult (ok s) = SoundSet shipLimit s
+SoundResult (ok s) = SoundSet intervalLimit s
 SoundResult (stop k) = k ≡ 0 → ⊥
 
 pub record Sound (v : SetV) : Type 0 where
@@ -47,16 +47,16 @@ pub record Sound (v : SetV) : Type 0 where
 
 -- the answer of an operation on values
 unfoldable pub answer1 : Op1 → SetV → SetV
-answer1 o a = valueOf (bind (resultOf a) (λ s. settle shipLimit (set1 o s) (flag1 o false)))
+answer1 o a = valueOf (bind (resultOf a) (λ s. settle intervalLimit (set1 o s) (flag1 o false)))
 
 unfoldable pub answer2 : Op2 → SetV → SetV → SetV
-answer2 o a b = valueOf (bind (resultOf a) (λ s. bind (resultOf b) (λ t. settle shipLimit (set2 o s t) (flag2 o false s t))))
+answer2 o a b = valueOf (bind (resultOf a) (λ s. bind (resultOf b) (λ t. settle intervalLimit (set2 o s t) (flag2 o false s t))))
 
 -- the numbers show the sets of the registers
 pub record Shown (l : List ℤ) : Type 0 where
   pub sets : List Set
   pub is : l ≡ layout sets
-  pub sound : SoundBands shipLimit (record { sets = sets })
+  pub sound : SoundBands intervalLimit (record { sets = sets })
 
 -- what is made of a form while its bytes are read; a literal beyond MIN..MAX counts as 0
 abbrev pub values : List ℤ → Algebra SetV

@@ -6,6 +6,10 @@ use cores::Op;
 use cores::Relation;
 use forms::Op1;
 use forms::Op2;
+use limits::ENDS;
+use limits::SLOT;
+use refusals::CROWDED;
+use refusals::ZERO_DIVISOR;
 ghost use mathlib.Core.Path.{_≡_};
 ghost use mathlib.Core.Bool.{false};
 ghost use mathlib.Core.Option.{some};
@@ -17,7 +21,7 @@ ghost use Rattle.meaning.specs.Outcome.{ok, stop};
 ghost use Rattle.meaning.specs.Interval.{span};
 ghost use Rattle.meaning.specs.NumberIntervals.{intervals, ofBools, set1, set2, flag1, flag2};
 ghost use Rattle.meaning.specs.Sheet.{registers};
-ghost use Rattle.meaning.specs.Check.{settle as settleOf, setIn, shipLimit};
+ghost use Rattle.meaning.specs.Check.{settle as settleOf, setIn, intervalLimit};
 ghost use Rattle.forms.specs.Answer.{op1Of, op2Of};
 ghost use Rattle.bools.specs.Reading.{boolsOf};
 ghost use Rattle.sets.specs.Sets.{Argument};
@@ -26,7 +30,7 @@ ghost use Rattle.set_values.specs.Value.{valueOf, Sound, Shown, Left, ki
 pub struct SetV {
     pub stop: u8,
     pub count: usize,
-    pub ends: [i64; 32],
+    pub ends: [i64; ENDS],
 }
 
 // No set, but the number of the trouble.
@@ -36,7 +40,7 @@ pub fn stopped(k: u8) -> SetV
     SetV {
         stop: k,
         count: 0,
-        ends: [0i64; 32],
+        ends: [0i64; ENDS],
     }
 }
 
@@ -44,7 +48,7 @@ pub fn stopped(k: u8) -> SetV
 pub fn one_interval(lo: i64, hi: i64) -> SetV
     ensures { λ r. ⌜ r ≡ valueOf (ok (span lo hi)) ⌝ }
 {
-    let mut ends = [0i64; 32];
+    let mut ends = [0i64; ENDS];
     ends[0] = lo;
     ends[1] = hi;
     SetV {
@@ -67,11 +71,11 @@ pub fn register_set(regs: &[i64], r: usize) -> SetV
     requires { ⌜ Shown (now regs) × (r < registers) ⌝ }
     ensures { λ v. ⌜ v ≡ valueOf (ok (setIn (now (regs .entry)) r)) ⌝ }
 {
-    let k = 33 * r;
+    let k = SLOT * r;
     let n = regs[k];
     let j = k + 1;
-    let mut ends = [0i64; 32];
-    slices::copy_front(&mut ends, &regs[j..], 32);
+    let mut ends = [0i64; ENDS];
+    slices::copy_front(&mut ends, &regs[j..], ENDS);
     SetV {
         stop: 0,
         count: amount(n),
@@ -82,15 +86,15 @@ pub fn register_set(regs: &[i64], r: usize) -> SetV
 // What a form's answer leaves: 9 if it has over 16 intervals, then 20 if its flag is set.
 fn settle(work: &[i64], count: usize, flag: bool) -> SetV
     requires { ⌜ (count ≤ length (now work)) × (count % 2 ≡ 0) ⌝ }
-    ensures { λ r. ⌜ r ≡ valueOf (settleOf shipLimit (intervals (take count (now (work .entry)))) flag) ⌝ }
+    ensures { λ r. ⌜ r ≡ valueOf (settleOf intervalLimit (intervals (take count (now (work .entry)))) flag) ⌝ }
 {
-    if 32 < count {
-        return stopped(9);
+    if ENDS < count {
+        return stopped(CROWDED);
     }
     if flag {
-        return stopped(20);
+        return stopped(ZERO_DIVISOR);
     }
-    let mut ends = [0i64; 32];
+    let mut ends = [0i64; ENDS];
     slices::copy_front(&mut ends, work, count);
     SetV {
         stop: 0,

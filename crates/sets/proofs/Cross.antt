@@ -1,6 +1,6 @@
 -- What two normal sets have in common, by one walk over both: the interval that ends first is left behind. Assumes nothing.
 use mathlib.Core.Path.{_≡_, refl, sym, ap, _∙_}
-use mathlib.Core.Logic.{inl, inr, ⊎-elim}
+use mathlib.Core.Logic.{_⊎_, inl, inr, ⊎-elim}
 use mathlib.Core.List.{List, [], _∷_, _++_, append-assoc, append-nil}
 use mathlib.Core.Bool.{Bool, true, false, cond}
 use Prim.Native.Nat.{ℕ, _+_, _≤_, _<_}
@@ -144,31 +144,23 @@ after-later : (f e : ℤ) (l : List ℤ) → Le f e → After e l → After f l
 after-later f e [] h a = tt
 after-later f e (s ∷ l) h a = omega (arith, h, a)
 
-after-left : (f : ℤ) (l r : List ℤ) → NormalEnds l → After f l → After f (cross l r)
-unfolding cross
-after-left f [] r n a = tt
-after-left f (s ∷ []) r n a = tt
-after-left f (s ∷ e ∷ l) [] n a = tt
-after-left f (s ∷ e ∷ l) (c ∷ []) n a = tt
-after-left f (s ∷ e ∷ l) (c ∷ d ∷ r) n a =
-    cross-case s e l c d r (λ m. After f m)
-    (λ p q. omega (arith, a, not-below-left s c))
-    (λ p q. after-left f l (c ∷ d ∷ r) (n .2) (after-later f e l (omega (arith, a, n .0)) (n .1)))
-    (λ p q. omega (arith, a, not-below-left s c))
-    (λ p q. after-left f (s ∷ e ∷ l) r n a)
+-- what both sets have in common starts after f where one of them does
+after-start : (f s c : ℤ) (l r : List ℤ) → After f (s ∷ l) ⊎ After f (c ∷ r) → After f (larger s c ∷ [])
+after-start f s c l r (inl a) = omega (arith, a, not-below-left s c)
+after-start f s c l r (inr a) = omega (arith, a, not-below-right s c)
 
-after-right : (f : ℤ) (l r : List ℤ) → NormalEnds r → After f r → After f (cross l r)
+after-cross : (f : ℤ) (l r : List ℤ) → NormalEnds l → NormalEnds r → After f l ⊎ After f r → After f (cross l r)
 unfolding cross
-after-right f [] r n a = tt
-after-right f (s ∷ []) r n a = tt
-after-right f (s ∷ e ∷ l) [] n a = tt
-after-right f (s ∷ e ∷ l) (c ∷ []) n a = tt
-after-right f (s ∷ e ∷ l) (c ∷ d ∷ r) n a =
+after-cross f [] r n k a = tt
+after-cross f (s ∷ []) r n k a = tt
+after-cross f (s ∷ e ∷ l) [] n k a = tt
+after-cross f (s ∷ e ∷ l) (c ∷ []) n k a = tt
+after-cross f (s ∷ e ∷ l) (c ∷ d ∷ r) n k a =
     cross-case s e l c d r (λ m. After f m)
-    (λ p q. omega (arith, a, not-below-right s c))
-    (λ p q. after-right f l (c ∷ d ∷ r) n a)
-    (λ p q. omega (arith, a, not-below-right s c))
-    (λ p q. after-right f (s ∷ e ∷ l) r (n .2) (after-later f d r (omega (arith, a, n .0)) (n .1)))
+    (λ p q. after-start f s c (e ∷ l) (d ∷ r) a)
+    (λ p q. after-cross f l (c ∷ d ∷ r) (n .2) k (⊎-elim (λ b. inl (after-later f e l (omega (arith, b, n .0)) (n .1))) inr a))
+    (λ p q. after-start f s c (e ∷ l) (d ∷ r) a)
+    (λ p q. after-cross f (s ∷ e ∷ l) r n (k .2) (⊎-elim inl (λ b. inr (after-later f d r (omega (arith, b, k .0)) (k .1))) a))
 
 cross-normal : (l r : List ℤ) → NormalEnds l → NormalEnds r → NormalEnds (cross l r)
 unfolding cross
@@ -178,9 +170,9 @@ cross-normal (s ∷ e ∷ l) [] n k = tt
 cross-normal (s ∷ e ∷ l) (c ∷ []) n k = tt
 cross-normal (s ∷ e ∷ l) (c ∷ d ∷ r) n k =
     cross-case s e l c d r (λ m. NormalEnds m)
-    (λ p q. (q, after-left e l (c ∷ d ∷ r) (n .2) (n .1), cross-normal l (c ∷ d ∷ r) (n .2) k))
+    (λ p q. (q, after-cross e l (c ∷ d ∷ r) (n .2) k (inl (n .1)), cross-normal l (c ∷ d ∷ r) (n .2) k))
     (λ p q. cross-normal l (c ∷ d ∷ r) (n .2) k)
-    (λ p q. (q, after-right d (s ∷ e ∷ l) r (k .2) (k .1), cross-normal (s ∷ e ∷ l) r n (k .2)))
+    (λ p q. (q, after-cross d (s ∷ e ∷ l) r n (k .2) (inr (k .1)), cross-normal (s ∷ e ∷ l) r n (k .2)))
     (λ p q. cross-normal (s ∷ e ∷ l) r n (k .2))
 
 -- the walk's answer is the intersection

@@ -9,7 +9,6 @@ use Rattle.meaning.specs.Text.{lines, cut}
 use Rattle.sheet.specs.Feed.{feed}
 use Rattle.sheet.proofs.Feeds.{line-inside, line-long, lines-past}
 use Rattle.sheet.specs.Place.{nowhere, partFor}
-use Rattle.sheet.specs.declared.Part.{Part}
 
 pub part-zero : (t : List ℕ) (n : ℕ) → n ≡ 0 → nowhere ≡ partFor t n
 part-zero t n e = sym (ap (partFor t) e)

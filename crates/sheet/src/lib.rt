@@ -10,8 +10,13 @@ ghost use Rattle.sheet.specs.Feed.{feed};
 ghost use Rattle.sheet.specs.Place.{Placed};
 ghost use Rattle.sheet.specs.Answer.{judgementFor, Judges};
 ghost use Rattle.sheet.specs.Judging.{isAct, admission, takenWith, inRegister};
+use limits::LINE;
+use limits::LINES;
+use limits::REGISTERS;
 use lines::LineForm;
 use lines::read_line;
+use refusals::MISPLACED;
+use refusals::MISSHAPEN;
 
 // Where a line starts in its text, and how many bytes it has.
 #[repr(C)]
@@ -32,7 +37,7 @@ pub fn line_end(text: &[u8], at: usize) -> usize
 {
     let mut i = at;
     while i < text.len() {
-        if text[i] == 10 {
+        if text[i] == b'\n' {
             return i;
         }
         i += 1;
@@ -97,10 +102,10 @@ fn shaped(text: &[u8]) -> bool
         if e == text.len() {
             return false;
         }
-        if 120 < e - at {
+        if LINE < e - at {
             return false;
         }
-        if n == 256 {
+        if n == LINES {
             return false;
         }
         n += 1;
@@ -110,7 +115,7 @@ fn shaped(text: &[u8]) -> bool
 }
 
 // The line's refusal, 8 where an `in` may not stand; 0 if there is none, and then the register of an `in` is taken.
-fn admit(other: bool, taken: &mut [bool; 16], l: LineForm) -> u8
+fn admit(other: bool, taken: &mut [bool; REGISTERS], l: LineForm) -> u8
     requires { ⌜ inRegister l < registers ⌝ }
     ensures { λ r. ⌜ r ≡ admission other (now (taken .entry)) l ⌝ }
     ensures { λ r. ⌜ now (taken .exit) ≡ takenWith other (now (taken .entry)) l ⌝ }
@@ -118,10 +123,10 @@ fn admit(other: bool, taken: &mut [bool; 16], l: LineForm) -> u8
     match l {
         LineForm::In(r, _, _) => {
             if other {
-                return 8;
+                return MISPLACED;
             }
             if taken[r] {
-                return 8;
+                return MISPLACED;
             }
             taken[r] = true;
             0
@@ -148,7 +153,7 @@ fn judge_lines(text: &[u8]) -> Judgement
     requires { ⌜ splitLines (now text) .rest ≡ [] ⌝ }
     ensures { λ r. ⌜ r ≡ judgementFor (readLines 1 nothingSeen (lines (now (text .entry)))) ⌝ }
 {
-    let mut taken = [false; 16];
+    let mut taken = [false; REGISTERS];
     let mut other = false;
     let mut n: usize = 0;
     let mut at = 0;
@@ -173,6 +178,6 @@ pub fn judge_text(text: &[u8]) -> Judgement
     if shaped(text) {
         judge_lines(text)
     } else {
-        Judgement::Refused(5, 0)
+        Judgement::Refused(MISSHAPEN, 0)
     }
 }

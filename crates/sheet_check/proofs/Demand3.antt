@@ -1,15 +1,13 @@
 -- Demand 3 for the calls: the contracts say what the calls answer and leave, and `demand3-calls` of `meaning` says that of it which is asked. Assumes nothing.
 use lib.IntN.{ℤ, pos}
 use lib.ListN.{getD, length, take}
-use mathlib.Core.Path.{_≡_, sym, ap, subst, _∙_}
+use mathlib.Core.Path.{sym, ap, subst, _∙_}
 use mathlib.Core.List.{List}
 use Prim.Native.Nat.{ℕ, _≤_}
-use Rattle.meaning.specs.Outcome.{done, stopped}
 use Rattle.meaning.specs.NumberIntervals.{_∈_}
 use Rattle.meaning.specs.Sheet.{registers, Line}
 use Rattle.meaning.specs.Text.{cut}
-use Rattle.meaning.specs.Run.{Judged, refused, worked}
-use Rattle.meaning.specs.Check.{Bands, shipLimit, checkCall, setIn}
+use Rattle.meaning.specs.Check.{intervalLimit, checkCall, setIn}
 use Rattle.meaning.specs.Demand3.{SafeAt}
 use Rattle.meaning.specs.Demand3Calls.{CallsSafeAt}
 use Rattle.laws.proofs.Demand3.{demand3 as safety}
@@ -19,9 +17,8 @@ use Rattle.run.proofs.Steps.{call-text}
 use Rattle.sheet_check.specs.Answer.{answerFor}
 use Rattle.sheet_check.specs.Demand3.{SafeAfter, Demand3}
 use Rattle.sheet_check.proofs.Walking.{pass-done, long-call}
-use Rattle.sheet_check.specs.declared.Answer.the-variants as answer
 
-after : (lent : List ℤ) (t : List ℕ) (ls xs : List Line) (m : ℕ) → registers ≤ length lent → CallsSafeAt lent t ls m → SafeAt shipLimit lent t xs m → SafeAfter lent t ls m
+after : (lent : List ℤ) (t : List ℕ) (ls xs : List Line) (m : ℕ) → registers ≤ length lent → CallsSafeAt lent t ls m → SafeAt intervalLimit lent t xs m → SafeAfter lent t ls m
 after lent t ls xs m k a s = record {
   state = a .state;
   sized = a .sized;
@@ -35,7 +32,7 @@ after lent t ls xs m k a s = record {
 pub demand3 : Demand3
 demand3 t sets work sets′ work′ lent n h k c i =
     let p = pass-done (checkCall t sets work) (c .answer-is) in
-    let s = safety shipLimit t n (p .0) lent (sym (long-call t sets work (h .sets-long) (h .work-long)) ∙ p .1) i in
+    let s = safety intervalLimit t n (p .0) lent (sym (long-call t sets work (h .sets-long) (h .work-long)) ∙ p .1) i in
     let q = demand3-calls t sets work lent n h k (sym (c .verdict-is)) i in
     record {
       lines = q .lines;

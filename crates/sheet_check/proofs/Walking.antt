@@ -17,7 +17,7 @@ use Rattle.meaning.specs.Sheet.{Line}
 use Rattle.meaning.specs.Reading.{readLine}
 use Rattle.meaning.specs.Text.{sheet, read}
 use Rattle.meaning.specs.Run.{verdict, Judged, refused, worked, judge}
-use Rattle.meaning.specs.Check.{Bands, checkLine, startSets, check, checkText, layout, setsNeed, workNeed, shipLimit, checkCall, setsLeftBy, workLeftBy, checkSets, checkWork}
+use Rattle.meaning.specs.Check.{Bands, checkLine, startSets, check, checkText, layout, setsNeed, workNeed, intervalLimit, checkCall, setsLeftBy, workLeftBy, checkSets, checkWork}
 use Rattle.meaning.specs.CheckSets.{SoundBands}
 use Rattle.laws.proofs.Integers.{never, by-test}
 use Rattle.laws.proofs.Work.{work-step}
@@ -61,28 +61,28 @@ pass-done (refused k l) e = never (ap isPass e)
 pass-done (worked m (done B)) {n} e = let d : m ≡ n = cc in (B, ap (λ (i : ℕ). worked i (done B)) d)
 pass-done (worked m (stopped k l B)) e = never (ap isPass e ∙ trouble-no-pass k l)
 
-pub enough : 1 ≤ shipLimit
+pub enough : 1 ≤ intervalLimit
 enough = omega arith
 
 -- with n lines worked, `at` bytes: the numbers show the sets so far, and what is left is worked from them
 pub record Going (t : List ℕ) (ls : List Line) (regs : List ℤ) (n at : ℕ) : Type 0 where
   pub walk : Walk t ls n at
   pub bands : Bands
-  pub kept : Kept demand2 shipLimit enough bands
+  pub kept : Kept demand2 intervalLimit enough bands
   pub shows : regs ≡ layout (bands .sets)
-  pub same : checkText shipLimit t ≡ worked (length ls) (work (checkLine shipLimit) (n + 1) bands (drop n ls))
+  pub same : checkText intervalLimit t ≡ worked (length ls) (work (checkLine intervalLimit) (n + 1) bands (drop n ls))
 
 pub going-start : (t : List ℕ) (ls : List Line) (regs : List ℤ) → read t ≡ sheet ls → regs ≡ layout (startSets .sets) → Going t ls regs 0 0
 unfolding checkText check
-going-start t ls regs e s = record { walk = walk-start t e; bands = startSets; kept = start-kept demand2 shipLimit enough; shows = s; same = rw e }
+going-start t ls regs e s = record { walk = walk-start t e; bands = startSets; kept = start-kept demand2 intervalLimit enough; shows = s; same = rw e }
 
-line-of : (B : Bands) (b : List ℕ) {l : Line} {x : Res Bands} → readLine b ≡ ok l → lineCheck B b ≡ x → checkLine shipLimit B l ≡ x
+line-of : (B : Bands) (b : List ℕ) {l : Line} {x : Res Bands} → readLine b ≡ ok l → lineCheck B b ≡ x → checkLine intervalLimit B l ≡ x
 unfolding lineCheck bind
-line-of B b {l} {x} e h = subst (λ (r : Res Line). bind r (checkLine shipLimit B) ≡ x) e h
+line-of B b {l} {x} e h = subst (λ (r : Res Line). bind r (checkLine intervalLimit B) ≡ x) e h
 
 module _ (t : List ℕ) (ls : List Line) (regs : List ℤ) (n at : ℕ) (g : Going t ls regs n at) where
-  pub going-sound : SoundBands shipLimit (g .bands)
-  going-sound = kept-sound demand2 shipLimit enough (g .kept)
+  pub going-sound : SoundBands intervalLimit (g .bands)
+  going-sound = kept-sound demand2 intervalLimit enough (g .kept)
 
   pub going-shown : Shown regs
   going-shown = record { sets = g .bands .sets; is = g .shows; sound = going-sound }
@@ -91,8 +91,8 @@ module _ (t : List ℕ) (ls : List Line) (regs : List ℤ) (n at : ℕ) (g : Goi
     next : Next t ls n e (take (e - at) (drop at t))
     next = walk-next t ls n at (g .walk) i ee
 
-    left-is : checkText shipLimit t ≡ worked (length ls) (work (checkLine shipLimit) (n + 1) (g .bands) (next .line ∷ drop (n + 1) ls))
-    left-is = g .same ∙ ap (λ (x : List Line). worked (length ls) (work (checkLine shipLimit) (n + 1) (g .bands) x)) (next .lines-left)
+    left-is : checkText intervalLimit t ≡ worked (length ls) (work (checkLine intervalLimit) (n + 1) (g .bands) (next .line ∷ drop (n + 1) ls))
+    left-is = g .same ∙ ap (λ (x : List Line). worked (length ls) (work (checkLine intervalLimit) (n + 1) (g .bands) x)) (next .lines-left)
 
     pub going-next : k ≡ 0 → Going t ls after (n + 1) (e + 1)
     going-next z =
@@ -101,19 +101,19 @@ module _ (t : List ℕ) (ls : List Line) (regs : List ℤ) (n at : ℕ) (g : Goi
         record {
           walk = next .walk;
           bands = r .0;
-          kept = line-kept demand2 shipLimit enough (g .bands) (next .line) (r .0) (read-line-fine (take (e - at) (drop at t)) (next .reads-it)) (g .kept) s;
+          kept = line-kept demand2 intervalLimit enough (g .bands) (next .line) (r .0) (read-line-fine (take (e - at) (drop at t)) (next .reads-it)) (g .kept) s;
           shows = r .2;
-          same = left-is ∙ ap (worked (length ls)) (work-step (checkLine shipLimit) (n + 1) (g .bands) (next .line) (drop (n + 1) ls) s
-              ∙ ap (λ (m : ℕ). work (checkLine shipLimit) m (r .0) (drop (n + 1) ls)) (sym (add-one (n + 1))));
+          same = left-is ∙ ap (worked (length ls)) (work-step (checkLine intervalLimit) (n + 1) (g .bands) (next .line) (drop (n + 1) ls) s
+              ∙ ap (λ (m : ℕ). work (checkLine intervalLimit) m (r .0) (drop (n + 1) ls)) (sym (add-one (n + 1))));
         }
 
-    going-stop : (k ≡ 0 → ⊥) → checkText shipLimit t ≡ worked (length ls) (stopped k (n + 1) (g .bands))
+    going-stop : (k ≡ 0 → ⊥) → checkText intervalLimit t ≡ worked (length ls) (stopped k (n + 1) (g .bands))
     unfolding work
     going-stop z =
         let s = line-of (g .bands) (take (e - at) (drop at t)) (next .reads-it) (w .stops z (g .bands) going-sound (g .shows)) in
         left-is ∙ rw s
 
-    pub checked-stop : (k ≡ 0 → ⊥) → {r : Answer} → r ≡ troubleOf k (n + 1) → Checked r after (checkText shipLimit t)
+    pub checked-stop : (k ≡ 0 → ⊥) → {r : Answer} → r ≡ troubleOf k (n + 1) → Checked r after (checkText intervalLimit t)
     checked-stop z {r} v =
         let x = going-stop z in
         let p : isPass r ≡ false = ap isPass v ∙ trouble-no-pass k (n + 1) in
@@ -123,11 +123,11 @@ module _ (t : List ℕ) (ls : List Line) (regs : List ℤ) (n at : ℕ) (g : Goi
           stops = λ _. (length ls, k, n + 1, g .bands, refl);
         })
 
-  going-done : length t ≤ at → checkText shipLimit t ≡ worked (length ls) (done (g .bands))
+  going-done : length t ≤ at → checkText intervalLimit t ≡ worked (length ls) (done (g .bands))
   unfolding work
   going-done h = g .same ∙ rw (walk-done t ls n at (g .walk) h)
 
-  pub checked-pass : length t ≤ at → Checked (answer.Pass (length ls)) regs (checkText shipLimit t)
+  pub checked-pass : length t ≤ at → Checked (answer.Pass (length ls)) regs (checkText intervalLimit t)
   checked-pass h =
       let x = going-done h in
       rw x (record {
@@ -159,11 +159,11 @@ module _ (t : List ℕ) (count : ℕ) (regs : List ℤ) (n at : ℕ) (g : Loopin
     pub looping-next : k ≡ 0 → Looping t count after (n + 1) (e + 1)
     looping-next z = record { lines = g .lines; count-is = g .count-is; going = going-next t (g .lines) regs n at (g .going) i ee w z }
 
-    pub looping-stop : (k ≡ 0 → ⊥) → {r : Answer} → r ≡ troubleOf k (n + 1) → Checked r after (checkText shipLimit t)
+    pub looping-stop : (k ≡ 0 → ⊥) → {r : Answer} → r ≡ troubleOf k (n + 1) → Checked r after (checkText intervalLimit t)
     looping-stop z v = checked-stop t (g .lines) regs n at (g .going) i ee w z v
 
-  pub looping-done : length t ≤ at → Checked (answer.Pass count) regs (checkText shipLimit t)
-  looping-done h = subst (λ (m : ℕ). Checked (answer.Pass m) regs (checkText shipLimit t)) (g .count-is) (checked-pass t (g .lines) regs n at (g .going) h)
+  pub looping-done : length t ≤ at → Checked (answer.Pass count) regs (checkText intervalLimit t)
+  looping-done h = subst (λ (m : ℕ). Checked (answer.Pass m) regs (checkText intervalLimit t)) (g .count-is) (checked-pass t (g .lines) regs n at (g .going) h)
 
 -- ---- what is left in the slices; x is what the check of the text comes to
 
@@ -210,7 +210,7 @@ module _ (t : List ℕ) (sets work : List ℤ) where
   unfolding checkCall
   short-work k h = rw (le-ltb (length sets) setsNeed k, lt-ltb (length work) workNeed h)
 
-  pub long-call : 528 ≤ length sets → 8192 ≤ length work → checkCall t sets work ≡ checkText shipLimit t
+  pub long-call : 528 ≤ length sets → 8192 ≤ length work → checkCall t sets work ≡ checkText intervalLimit t
   unfolding checkCall
   long-call k h = rw (le-ltb (length sets) setsNeed k, le-ltb (length work) workNeed h)
 
@@ -223,8 +223,8 @@ module _ (t : List ℕ) (sets work : List ℤ) where
   module _ (k : 528 ≤ length sets) (h : 8192 ≤ length work) {j : Judgement} (ej : j ≡ judgementFor (read t)) where
     pub called-refused : {q l : ℕ} → j ≡ judgement.Refused q l → Called t sets work (answer.Refused q l) sets work
     unfolding checkText
-    called-refused {q} {l} e = call-is (refused q l) (long-call k h ∙ ap (judge (check shipLimit)) (refused-read t ej e)) refl refl refl
+    called-refused {q} {l} e = call-is (refused q l) (long-call k h ∙ ap (judge (check intervalLimit)) (refused-read t ej e)) refl refl refl
 
-    pub called-worked : {r : Answer} {sets′ work′ : List ℤ} → r ≡ answerFor (checkText shipLimit t) → sets′ ≡ setsLeftBy sets (checkText shipLimit t)
-        → work′ ≡ workLeftBy work (checkText shipLimit t) → Called t sets work r sets′ work′
-    called-worked a c d = call-is (checkText shipLimit t) (long-call k h) a c d
+    pub called-worked : {r : Answer} {sets′ work′ : List ℤ} → r ≡ answerFor (checkText intervalLimit t) → sets′ ≡ setsLeftBy sets (checkText intervalLimit t)
+        → work′ ≡ workLeftBy work (checkText intervalLimit t) → Called t sets work r sets′ work′
+    called-worked a c d = call-is (checkText intervalLimit t) (long-call k h) a c d

@@ -1,4 +1,8 @@
 // The check of a sheet (01, "Sheet"): one set a register, worked line by line. It works on 528 numbers of its own; the lent sets are written on a pass only.
+use limits::SETS;
+use limits::WORK;
+use refusals::FINDINGS;
+use refusals::TOO_SHORT;
 use set_lines::check_line;
 use set_lines::start;
 use sheet::Judgement;
@@ -9,7 +13,7 @@ use slices::zero_first;
 ghost use mathlib.Core.Path.{_≡_};
 ghost use Prim.Native.Nat.{_≤_};
 ghost use lib.ListN.{length};
-ghost use Rattle.meaning.specs.Check.{layout, startSets, setsNeed, workNeed, shipLimit, checkText, setsLeftBy, workLeftBy};
+ghost use Rattle.meaning.specs.Check.{layout, startSets, setsNeed, workNeed, intervalLimit, checkText, setsLeftBy, workLeftBy};
 ghost use Rattle.sheet.specs.Judging.{IsSheet};
 ghost use Rattle.sheet_check.specs.Answer.{troubleOf, answerFor, Called};
 ghost use Rattle.sheet_check.specs.Working.{isPass, Checked};
@@ -25,7 +29,7 @@ pub enum Answer {
 fn trouble(k: u8, n: usize) -> Answer
     ensures { λ r. ⌜ r ≡ troubleOf k n ⌝ }
 {
-    if 20 <= k {
+    if FINDINGS <= k {
         Answer::Finding(k, n)
     } else {
         Answer::Refused(k, n)
@@ -35,7 +39,7 @@ fn trouble(k: u8, n: usize) -> Answer
 // The lines of a sheet in order, with its count of lines.
 fn check_lines(text: &[u8], count: usize, regs: &mut [i64], work: &mut [i64]) -> Answer
     requires { ⌜ IsSheet (now text) count × (8192 ≤ length (now work)) × (now regs ≡ layout (startSets .sets)) ⌝ }
-    ensures { λ r. ⌜ Checked r (now (regs .exit)) (checkText shipLimit (now (text .entry))) ⌝ }
+    ensures { λ r. ⌜ Checked r (now (regs .exit)) (checkText intervalLimit (now (text .entry))) ⌝ }
 {
     let mut n: usize = 0;
     let mut at = 0;
@@ -65,16 +69,16 @@ fn passed(a: Answer) -> bool
 // The check of a sheet, on slices that are long enough.
 fn check_sheet(text: &[u8], count: usize, sets: &mut [i64], work: &mut [i64]) -> Answer
     requires { ⌜ IsSheet (now text) count × (setsNeed ≤ length (now sets)) × (workNeed ≤ length (now work)) ⌝ }
-    ensures { λ r. ⌜ r ≡ answerFor (checkText shipLimit (now (text .entry))) ⌝ }
-    ensures { λ r. ⌜ now (sets .exit) ≡ setsLeftBy (now (sets .entry)) (checkText shipLimit (now (text .entry))) ⌝ }
-    ensures { λ r. ⌜ now (work .exit) ≡ workLeftBy (now (work .entry)) (checkText shipLimit (now (text .entry))) ⌝ }
+    ensures { λ r. ⌜ r ≡ answerFor (checkText intervalLimit (now (text .entry))) ⌝ }
+    ensures { λ r. ⌜ now (sets .exit) ≡ setsLeftBy (now (sets .entry)) (checkText intervalLimit (now (text .entry))) ⌝ }
+    ensures { λ r. ⌜ now (work .exit) ≡ workLeftBy (now (work .entry)) (checkText intervalLimit (now (text .entry))) ⌝ }
 {
-    let mut regs = [0i64; 528];
+    let mut regs = [0i64; SETS];
     start(&mut regs);
-    let a = check_lines(text, count, &mut regs, &mut work[..8192]);
-    zero_first(work, 8192);
+    let a = check_lines(text, count, &mut regs, &mut work[..WORK]);
+    zero_first(work, WORK);
     if passed(a) {
-        copy_front(sets, &regs, 528);
+        copy_front(sets, &regs, SETS);
     }
     a
 }
@@ -83,11 +87,11 @@ fn check_sheet(text: &[u8], count: usize, sets: &mut [i64], work: &mut [i64]) ->
 pub fn check(text: &[u8], sets: &mut [i64], work: &mut [i64]) -> Answer
     ensures { λ r. ⌜ Called (now (text .entry)) (now (sets .entry)) (now (work .entry)) r (now (sets .exit)) (now (work .exit)) ⌝ }
 {
-    if sets.len() < 528 {
-        return Answer::Refused(3, 0);
+    if sets.len() < SETS {
+        return Answer::Refused(TOO_SHORT, 0);
     }
-    if work.len() < 8192 {
-        return Answer::Refused(3, 0);
+    if work.len() < WORK {
+        return Answer::Refused(TOO_SHORT, 0);
     }
     match judge_text(text) {
         Judgement::Fine(n) => check_sheet(text, n, sets, work),

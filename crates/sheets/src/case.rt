@@ -4,15 +4,14 @@ ghost use mathlib.Core.Path.{_≡_};
 ghost use mathlib.Core.Bool.{_&&_};
 ghost use Prim.Native.Nat.{_+_, _*_};
 ghost use lib.Dec.{eqb};
+use limits::SETS;
 use replay::fill;
 use replay::fill_front;
 use replay::pair;
 use replay::wide;
 
-// What the sets hold when they are lent to the check, and how many numbers it needs.
+// What the sets hold when they are lent to the check.
 pub const OLD_SETS: i64 = -3333333;
-
-const SETS: usize = 528;
 
 // What a call is to answer: 0 a success, 1 a finding or a stop, 2 a refusal; its number; its line, or the line count of a success.
 pub struct Verdict {

@@ -2,6 +2,7 @@
 use crate::case::Case;
 use crate::case::OLD_SETS;
 use crate::case::is_expected;
+use limits::WORK;
 use replay::fill;
 use replay::fill_front;
 use replay::same;
@@ -9,8 +10,6 @@ use sheet_check::Answer;
 
 // What the work holds when it is lent.
 const OLD_WORK: i64 = -4444444;
-
-const WORK: usize = 8192;
 
 fn answers(c: Case, r: Answer) -> bool {
     match r {

@@ -3,7 +3,7 @@
 ghost use mathlib.Core.Path.{_≡_};
 ghost use mathlib.Core.List.{_++_};
 ghost use Prim.Native.Nat.{_<_, _≤_};
-ghost use lib.ListN.{length, getD, take, replicate};
+ghost use lib.ListN.{length, take, replicate};
 ghost use lib.IntN.{pos};
 ghost use lib.Signed.{leZ};
 ghost use Rattle.meaning.specs.Lists.{over};

@@ -1,7 +1,7 @@
 -- Integers by words: `Is z a b` says that z is a − b. Sums, products and orders of ℤ are then equations and orders of the words, with what was added to
 -- them kept apart. Assumes nothing.
 use mathlib.Core.Path.{_≡_, ap, _∙_}
-use Prim.Native.Nat.{ℕ, _+_, _-_, _*_, _/_, _^_, _≤_, _<_}
+use Prim.Native.Nat.{ℕ, _+_, _*_, _/_, _^_, _≤_, _<_}
 use native.Mathlib.Omega.{arith}
 use lib.IntN.{ℤ, pos, negsuc, _+ℤ_, _-ℤ_, _*ℤ_, subℕ}
 use lib.Signed.{_≤ℤ_, mag}

@@ -1,5 +1,6 @@
 // The lines of a listing (01, "Whole listing"): words, numbers and intervals, in bytes. Each function writes its part at the front of the bytes that it is
 // lent, and returns how many they are.
+use refusals::FINDINGS;
 ghost use mathlib.Core.List.{_++_};
 ghost use Prim.Native.Nat.{_≤_};
 ghost use lib.ListN.{length};
@@ -48,7 +49,7 @@ fn trouble_start(out: &mut [u8], k: u8) -> usize
     requires { ⌜ length (troubleStart k) ≤ length (now out) ⌝ }
     ensures { λ r. ⌜ Written r (troubleStart k) (now (out .exit)) (now (out .entry)) ⌝ }
 {
-    if k < 20 {
+    if k < FINDINGS {
         word_nat(out, b"refused ", k as u64)
     } else {
         word_nat(out, b"stop ", k as u64)

@@ -1,5 +1,5 @@
 -- A left start below a right end is a right end past a left start, and a left end at or past a right start the other way round.
-use mathlib.Core.Path.{_≡_, sym, ap, _∙_}
+use mathlib.Core.Path.{sym, ap, _∙_}
 use lib.Signed.{leZ, ltZ}
 use Rattle.meaning.specs.Bools.{BoolInterval}
 use Rattle.meaning.specs.NumberIntervals.{intervals, leBools, ltBools}

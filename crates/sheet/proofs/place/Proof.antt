@@ -32,10 +32,9 @@ returns-2 c =
     let at = c .before .before .line-start .result in
     let b = c .before .before .line-start .ensures in
     let e = c .before .line-end .ensures in
-    let some = c .before .before .before .if1 .left in
     record {
-      place = part-there t at e (a .n) some b (c .if2 .taken);
-      bytes = line-there t (a .n - 1) at b e (c .if2 .taken) ∙ line-some t (a .n) some;
+      place = part-there t at e (a .n) (c .before .before .before .if1 .left) b (c .if2 .taken);
+      bytes = line-there t (a .n - 1) at b e (c .if2 .taken) ∙ line-some t (a .n) (c .before .before .before .if1 .left);
       inside = omega (arith, e, c .if2 .taken);
     }
 
@@ -46,10 +45,9 @@ returns-3 c =
     let at = c .before .before .line-start .result in
     let b = c .before .before .line-start .ensures in
     let e = c .before .line-end .ensures in
-    let some = c .before .before .before .if1 .left in
     record {
-      place = part-none t at e (a .n) some b (c .if2 .left);
-      bytes = line-none t (a .n - 1) at b e (c .if2 .left) ∙ line-some t (a .n) some;
+      place = part-none t at e (a .n) (c .before .before .before .if1 .left) b (c .if2 .left);
+      bytes = line-none t (a .n - 1) at b e (c .if2 .left) ∙ line-some t (a .n) (c .before .before .before .if1 .left);
       inside = omega arith;
     }
 

@@ -1,28 +1,21 @@
--- The lengths of the two intervals tell whether the exact ends are far apart, and the wrapped ends are the point results of the ends.
+-- The exact ends are as far apart as the two intervals are long together, and the wrapped ends are the point results of the ends.
 -- Assumes nothing.
 use borrow.Author.Needs.{needs}
-use mathlib.Core.Path.{_∙_}
 use Rattle.meaning.specs.Interval.{subPair}
 use Rattle.number.proofs.Points.{sub-gives}
 use Rattle.slices.proofs.Lent.{wrote-as}
-use Rattle.interval.proofs.SumRules.{split-is, distance-gives, difference-far}
+use Rattle.interval.proofs.SumRules.{split-is, differences-far}
 use Rattle.interval.proofs.sum.sub_pair.Statement.{statement}
 use Rattle.interval.proofs.sum.sub_pair.Tie as tie
 
-distance-requires : tie.Need-distance-requires
-distance-requires c κs = search needs
-
-distance-requires-2 : tie.Need-distance-requires-2
-distance-requires-2 c κs = search needs
+long-together-requires : tie.Need-long-together-requires
+long-together-requires c κs = search needs
 
 sub-requires : tie.Need-sub-requires
 sub-requires c κs = search needs
 
 sub-requires-2 : tie.Need-sub-requires-2
 sub-requires-2 c κs = search needs
-
-reach-all-requires : tie.Need-reach-all-requires
-reach-all-requires c κs = search needs
 
 put-split-requires : tie.Need-put-split-requires
 put-split-requires c κs = search needs
@@ -33,29 +26,12 @@ same-length c = search needs
 returns : tie.Need-returns
 unfolding subPair
 returns c =
-    let r = c .before .before in
-    let v = r .before .before in
-    let u = v .before in
-    let b = u .before in
-    let a = b .before in
-    let s = a .before in
-    let w = s .fits in
-    let m = distance-gives (w .s) (w .e) (a .distance .ensures) in
-    let n = distance-gives (w .t) (w .f) (b .distance2 .ensures) in
+    let v = c .before .before .before in
+    let w = v .before .before .before .fits in
     wrote-as
-    (split-is _ _ (r .reach-all .ensures ∙ difference-far (s .args .s) (s .args .e) (s .args .t) (s .args .f) m n)
-    (sub-gives (w .s) (w .f) (u .sub .ok) (u .sub .ensures)) (sub-gives (w .e) (w .t) (v .sub2 .ok) (v .sub2 .ensures)))
+    (split-is _ _ (differences-far (w .s) (w .e) (w .t) (w .f) (v .before .before .long-together .ensures))
+    (sub-gives (w .s) (w .f) (v .before .sub .ok) (v .before .sub .ensures)) (sub-gives (w .e) (w .t) (v .sub2 .ok) (v .sub2 .ensures)))
     (c .before .put-split .ensures)
 
 pub sub-pair-spec : {M : Type 1} → statement M
-sub-pair-spec =
-    tie.close
-    (tie.spec
-    distance-requires
-    distance-requires-2
-    sub-requires
-    sub-requires-2
-    reach-all-requires
-    put-split-requires
-    same-length
-    returns)
+sub-pair-spec = tie.close (tie.spec long-together-requires sub-requires sub-requires-2 put-split-requires same-length returns)

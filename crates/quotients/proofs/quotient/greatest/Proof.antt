@@ -18,12 +18,11 @@ greater-requires-3 c κs = search needs
 
 returns : tie.Need-returns
 returns c =
-    let m = c .before in
-    let l = m .before in
+    let l = c .before .before in
     let w = l .before .fits in
     back (c .greater3 .result) (c .greater3 .ok) ∙ c .greater3 .ensures
     ∙ ap₂ larger (back (l .greater .result) (l .greater .ok) ∙ l .greater .ensures ∙ ap₂ larger (toZ-ofZ (w .a)) (toZ-ofZ (w .b)))
-    (back (m .greater2 .result) (m .greater2 .ok) ∙ m .greater2 .ensures ∙ ap₂ larger (toZ-ofZ (w .c)) (toZ-ofZ (w .d)))
+    (back (c .before .greater2 .result) (c .before .greater2 .ok) ∙ c .before .greater2 .ensures ∙ ap₂ larger (toZ-ofZ (w .c)) (toZ-ofZ (w .d)))
 
 pub greatest-spec : {M : Type 1} → statement M
 greatest-spec = tie.close (tie.spec greater-requires greater-requires-2 greater-requires-3 returns)

@@ -18,12 +18,11 @@ lesser-requires-3 c κs = search needs
 
 returns : tie.Need-returns
 returns c =
-    let m = c .before in
-    let l = m .before in
+    let l = c .before .before in
     let w = l .before .fits in
     back (c .lesser3 .result) (c .lesser3 .ok) ∙ c .lesser3 .ensures
     ∙ ap₂ smaller (back (l .lesser .result) (l .lesser .ok) ∙ l .lesser .ensures ∙ ap₂ smaller (toZ-ofZ (w .a)) (toZ-ofZ (w .b)))
-    (back (m .lesser2 .result) (m .lesser2 .ok) ∙ m .lesser2 .ensures ∙ ap₂ smaller (toZ-ofZ (w .c)) (toZ-ofZ (w .d)))
+    (back (c .before .lesser2 .result) (c .before .lesser2 .ok) ∙ c .before .lesser2 .ensures ∙ ap₂ smaller (toZ-ofZ (w .c)) (toZ-ofZ (w .d)))
 
 pub least-spec : {M : Type 1} → statement M
 least-spec = tie.close (tie.spec lesser-requires lesser-requires-2 lesser-requires-3 returns)
