@@ -11,6 +11,7 @@ ghost use Rattle.slices.specs.Wrote.{Wrote};
 ghost use Rattle.sets.specs.Sets.{SetEnds};
 ghost use Rattle.bools.specs.Reading.{boolsOf};
 
+// What a truth value may be; neither, for an empty set.
 pub struct BoolInterval {
     pub bfalse: bool,
     pub btrue: bool,

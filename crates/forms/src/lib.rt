@@ -12,12 +12,14 @@ use literals::read_literal;
 use literals::read_register;
 use literals::tail;
 
+// The operations of one argument that a form names.
 pub enum Op1 {
     Neg,
     Abs,
     Not,
 }
 
+// The operations of two arguments.
 pub enum Op2 {
     Add,
     Sub,
@@ -106,6 +108,7 @@ fn long_word(w: u32) -> Head
     }
 }
 
+// A byte, as a number that words are made of.
 fn letter(b: u8) -> u32
     ensures { λ r. ⌜ r ≡ b ⌝ }
 {
@@ -139,6 +142,7 @@ pub fn start(text: &[u8]) -> usize
     if at(text, 3) == b' ' { 4 } else { 5 }
 }
 
+// One of the two, or both.
 pub fn either(a: bool, b: bool) -> bool
     ensures { λ r. ⌜ r ≡ (a || b) ⌝ }
 {

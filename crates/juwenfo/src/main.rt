@@ -46,6 +46,7 @@ fn write_listing(text: &[u8]) {
     }
 }
 
+// A sheet that cannot be read has no listing.
 fn main() {
     let mut text = [0u8; ENOUGH];
     match read_text(&mut text) {

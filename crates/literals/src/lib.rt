@@ -67,12 +67,14 @@ fn digits(text: &[u8]) -> usize
     i
 }
 
+// The digit that a byte writes.
 fn digit(b: u8) -> u8
     ensures { λ r. ⌜ r ≡ b - 48 ⌝ }
 {
     if b'0' <= b { b - b'0' } else { 0 }
 }
 
+// A digit, as a number that more digits follow.
 fn wide(b: u8) -> u64
     ensures { λ r. ⌜ r ≡ b ⌝ }
 {

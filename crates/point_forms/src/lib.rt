@@ -38,6 +38,7 @@ enum Value {
     Bad,
 }
 
+// An operation of one argument on a number.
 fn unary(op: Op1, x: i64) -> i64
     ensures { λ r. ⌜ r ≡ point1 (op1Of op) x ⌝ }
 {
@@ -58,6 +59,7 @@ fn divided(m: Maybe) -> Num
     }
 }
 
+// An operation of two arguments on numbers.
 fn binary(op: Op2, x: i64, y: i64) -> Num
     ensures { λ r. ⌜ resOf r ≡ orStop zeroDivisor (point2 (op2Of op) x y) ⌝ }
 {
@@ -75,6 +77,7 @@ fn binary(op: Op2, x: i64, y: i64) -> Num
     }
 }
 
+// Of one argument, whose trouble stays.
 fn one(op: Op1, a: Num) -> Num
     ensures { λ r. ⌜ resOf r ≡ with1 (op1Of op) (resOf a) ⌝ }
 {

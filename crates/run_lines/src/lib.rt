@@ -20,6 +20,7 @@ pub enum Step {
     Stop(u8),
 }
 
+// x is from lo to hi.
 fn within(lo: i64, x: i64, hi: i64) -> bool
     ensures { λ r. ⌜ r ≡ withinOf lo x hi ⌝ }
 {

@@ -18,6 +18,7 @@ pub struct SetRead {
     pub value: SetV,
 }
 
+// Outside the grammar; such a line is refused before its sets are worked.
 fn unread() -> SetRead
     ensures { λ r. ⌜ readOf r ≡ bad ⌝ }
 {
@@ -29,6 +30,7 @@ fn unread() -> SetRead
     }
 }
 
+// A set that takes n bytes.
 fn taken(n: usize, v: SetV) -> SetRead
     ensures { λ r. ⌜ readOf r ≡ Rattle.meaning.specs.Reading.got v n ⌝ }
 {

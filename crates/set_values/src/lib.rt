@@ -27,6 +27,7 @@ ghost use Rattle.bools.specs.Reading.{boolsOf};
 ghost use Rattle.sets.specs.Sets.{Argument};
 ghost use Rattle.set_values.specs.Value.{valueOf, Sound, Shown, Left, kindOf, answer1, answer2};
 
+// The number of the trouble, or 0; how many intervals the set has, and room for their ends, 0 past them.
 pub struct SetV {
     pub stop: u8,
     pub count: usize,

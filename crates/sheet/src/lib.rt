@@ -137,6 +137,7 @@ fn admit(other: bool, taken: &mut [bool; REGISTERS], l: LineForm) -> u8
     }
 }
 
+// A line after which no `in` may stand.
 fn is_act(l: LineForm) -> bool
     ensures { λ r. ⌜ r ≡ isAct l ⌝ }
 {

@@ -38,6 +38,7 @@ pub struct Case {
     pub end: usize,
 }
 
+// A verdict as it is stored, its line in two bytes.
 fn verdict_in(kind: u8, number: u8, low: u8, high: u8) -> Verdict
     ensures { λ r. ⌜ (r .kind ≡ kind) × (r .number ≡ number) × (r .line ≡ low + 256 * high) ⌝ }
 {
@@ -48,6 +49,7 @@ fn verdict_in(kind: u8, number: u8, low: u8, high: u8) -> Verdict
     }
 }
 
+// The case that the stored bytes say.
 pub fn case_in(b: &[u8; 32]) -> Case {
     Case {
         text: pair(b[0], b[1]),
@@ -84,6 +86,7 @@ fn read_place(fd: i32, s: &mut [i64]) {
     }
 }
 
+// n numbers with their places, from the file into s.
 fn read_places(fd: i32, s: &mut [i64], n: usize) {
     let mut i = 0;
     while i < n {

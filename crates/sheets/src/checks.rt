@@ -11,6 +11,7 @@ use sheet_check::Answer;
 // What the work holds when it is lent.
 const OLD_WORK: i64 = -4444444;
 
+// The check answers as is expected.
 fn answers(c: Case, r: Answer) -> bool {
     match r {
         Answer::Pass(n) => is_expected(c.checked, 0, 0, n),
@@ -56,6 +57,7 @@ fn compare(
     make(c, text, sets, work) && same(sets, want) && same(work, cleared)
 }
 
+// So it does, and leaves the sets and the work as it is to.
 pub fn agrees(c: Case, text: &[u8], want: &[i64]) -> bool {
     let mut sets = replay::numbers();
     let mut work = replay::numbers();

@@ -87,6 +87,7 @@ fn replay_case(part: u8, fd: i32, c: Case) -> bool {
         && cut(part, c, &text, &mut lent, &left, &sets, &listed)
 }
 
+// One stored case, if there is one more.
 fn next_case(part: u8, fd: i32) -> Step {
     let mut b = [0u8; 32];
     if io::read_full(fd, &mut b) < 32 {
@@ -99,6 +100,7 @@ fn next_case(part: u8, fd: i32) -> Step {
     }
 }
 
+// All cases of a file.
 fn replay_cases(part: u8, fd: i32) -> Tally {
     let mut t = Tally::new();
     let mut turns = TURNS;
@@ -122,6 +124,7 @@ fn replay_part(part: u8, name: &[u8]) {
     replay::report(name, t);
 }
 
+// Each file of cases, and a line of report for each.
 fn main() {
     replay_part(0, b"judge");
     replay_part(1, b"line");

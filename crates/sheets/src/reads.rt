@@ -3,6 +3,7 @@ use crate::case::Case;
 use crate::case::is_expected;
 use sheet::Judgement;
 
+// The text is judged as is expected.
 pub fn judged(c: Case, text: &[u8]) -> bool {
     match sheet::judge_text(text) {
         Judgement::Fine(n) => is_expected(c.judged, 0, 0, n),

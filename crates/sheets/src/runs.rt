@@ -3,6 +3,7 @@ use crate::case::Case;
 use crate::case::is_expected;
 use run::Answer;
 
+// The run answers as is expected, and leaves its numbers so.
 pub fn agrees(c: Case, text: &[u8], lent: &mut [i64], left: &[i64]) -> bool {
     let is_answer = match run::run(text, lent) {
         Answer::Done(n) => is_expected(c.ran, 0, 0, n),

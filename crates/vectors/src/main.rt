@@ -12,6 +12,7 @@ const SETS: u8 = 15;
 // More turns than a file has cases: a proved loop has to end, and nothing says that a file does.
 const TURNS: usize = 1000000;
 
+// One stored case, if there is one more.
 fn next_case(op: u8, fd: i32) -> Step {
     if op < SETS {
         sets::next_case(op, fd)
@@ -20,6 +21,7 @@ fn next_case(op: u8, fd: i32) -> Step {
     }
 }
 
+// All cases of a file.
 fn replay_cases(op: u8, fd: i32) -> Tally {
     let mut t = Tally::new();
     let mut turns = TURNS;
@@ -42,6 +44,7 @@ fn replay_file(op: u8, name: &[u8]) {
     replay::report(name, t);
 }
 
+// The set calls, a file each.
 fn replay_sets() {
     replay_file(0, b"neg");
     replay_file(1, b"abs");
@@ -60,6 +63,7 @@ fn replay_sets() {
     replay_file(14, b"intersect");
 }
 
+// The point operations, a file each.
 fn replay_points() {
     replay_file(15, b"point_neg");
     replay_file(16, b"point_abs");
@@ -78,6 +82,7 @@ fn replay_points() {
     replay_file(29, b"point_prev");
 }
 
+// A line of report for each operation.
 fn main() {
     replay_sets();
     replay_points();

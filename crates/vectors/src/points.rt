@@ -3,6 +3,7 @@ use number::Maybe;
 use replay::Step;
 use replay::number_in;
 
+// An operation that always has an answer.
 fn some(x: i64) -> Maybe {
     Maybe::Is(x)
 }
@@ -28,6 +29,7 @@ fn call(op: u8, x: i64, y: i64) -> Maybe {
     }
 }
 
+// There is an answer just where one is stored, and it is that one.
 fn as_expected(r: Maybe, is: i64, value: i64) -> bool {
     match r {
         Maybe::Is(z) => is == 1 && z == value,

@@ -27,6 +27,7 @@ struct Case {
     zeroed: usize,
 }
 
+// The case that the stored bytes say.
 fn case_in(b: &[u8; 16]) -> Case {
     Case {
         left: wide(b[0]),

@@ -19,19 +19,48 @@ enum-known-lo : tie.Need-enum-known-lo
 enum-known-lo c = search needs
 
 add-at : tie.Need-add-at
-add-at c = omega (arith, c .before .before .before .before .before .before .good .0, c .before .before .before .before .before .before .pre, literal-part (c .before .before .before .before .before .before .args .text .now) (c .before .before .before .before .before .before .args .i) (c .before .before .before .before .tail .ensures) (literal-is (literal (c .before .before .before .before .tail .result .now)) (c .before .before .before .read-literal .ensures) (c .before .lo .given .1) .1))
+add-at c =
+    let read-literal = c .before .before .before .read-literal in
+    let tail = c .before .before .before .before .tail in
+    let s = c .before .before .before .before .before .before in
+    omega (
+      arith,
+      s .good .0,
+      s .pre,
+      literal-part (s .args .text .now) (s .args .i) (tail .ensures)
+          (literal-is (literal (tail .result .now)) (read-literal .ensures) (c .before .lo .given .1) .1),
+    )
 
 at-requires : tie.Need-at-requires
 at-requires c κs = search needs
 
 returns : tie.Need-returns
-returns c = bounds-no-space (c .before .before .before .before .before .before .before .before .args .text .now) (c .before .before .before .before .before .before .before .before .args .held) (c .before .before .before .before .before .before .before .before .args .r) (c .before .before .before .before .before .before .before .before .args .i) (c .before .before .before .before .before .before .tail .ensures) (c .before .before .before .before .before .read-literal .ensures) (c .before .before .before .lo .given .1) (c .before .at .ensures) (c .if1 .taken)
+returns c =
+    let lo = c .before .before .before .lo in
+    let read-literal = c .before .before .before .before .before .read-literal in
+    let tail = c .before .before .before .before .before .before .tail in
+    let s = c .before .before .before .before .before .before .before .before in
+    bounds-no-space (s .args .text .now) (s .args .held) (s .args .r) (s .args .i) (tail .ensures) (read-literal .ensures) (lo .given .1) (c .before .at .ensures) (c .if1 .taken)
 
 add-j : tie.Need-add-j
-add-j c = omega (arith, c .before .before .before .before .before .before .before .before .good .0, c .before .before .before .before .before .before .before .before .pre, literal-part (c .before .before .before .before .before .before .before .before .args .text .now) (c .before .before .before .before .before .before .before .before .args .i) (c .before .before .before .before .before .before .tail .ensures) (literal-is (literal (c .before .before .before .before .before .before .tail .result .now)) (c .before .before .before .before .before .read-literal .ensures) (c .before .before .before .lo .given .1) .1))
+add-j c =
+    let lo = c .before .before .before .lo in
+    let read-literal = c .before .before .before .before .before .read-literal in
+    let tail = c .before .before .before .before .before .before .tail in
+    let s = c .before .before .before .before .before .before .before .before in
+    omega (
+      arith,
+      s .good .0,
+      s .pre,
+      literal-part (s .args .text .now) (s .args .i) (tail .ensures)
+          (literal-is (literal (tail .result .now)) (read-literal .ensures) (lo .given .1) .1),
+    )
 
 add-j-2 : tie.Need-add-j-2
-add-j-2 c = omega (arith, c .before .before .before .before .before .before .before .before .good .0, c .before .before .before .before .before .before .before .before .pre, byte-lt (c .before .before .before .before .before .before .before .before .args .text .now) (c .before .before .before .before .before .before .before .before .args .i + c .before .before .before .lo .given .0 .1 .1 .0) (omega (arith, c .before .at .ensures, c .if1 .left)))
+add-j-2 c =
+    let lo = c .before .before .before .lo in
+    let s = c .before .before .before .before .before .before .before .before in
+    omega (arith, s .good .0, s .pre, byte-lt (s .args .text .now) (s .args .i + lo .given .0 .1 .1 .0) (omega (arith, c .before .at .ensures, c .if1 .left)))
 
 tail-requires-2 : tie.Need-tail-requires-2
 tail-requires-2 c κs = search needs
@@ -43,10 +72,40 @@ enum-known-hi : tie.Need-enum-known-hi
 enum-known-hi c = search needs
 
 add-ends : tie.Need-add-ends
-add-ends c = omega (arith, c .before .before .before .before .before .before .before .before .before .before .before .before .before .good .0, c .before .before .before .before .before .before .before .before .before .before .before .before .before .pre, byte-lt (c .before .before .before .before .before .before .before .before .before .before .before .before .before .args .text .now) (c .before .before .before .before .before .before .before .before .before .before .before .before .before .args .i + c .before .before .before .before .before .before .before .before .lo .given .0 .1 .1 .0) (omega (arith, c .before .before .before .before .before .before .at .ensures, c .before .before .before .before .before .if1 .left)), literal-part (c .before .before .before .before .before .before .before .before .before .before .before .before .before .args .text .now) (c .before .before .before .before .before .before .before .before .before .before .before .before .before .args .i + c .before .before .before .before .before .before .before .before .lo .given .0 .1 .1 .0 + 1) (c .before .before .before .before .tail2 .ensures) (literal-is (literal (c .before .before .before .before .tail2 .result .now)) (c .before .before .before .read-literal2 .ensures) (c .before .hi .given .1) .1))
+add-ends c =
+    let read-literal2 = c .before .before .before .read-literal2 in
+    let tail2 = c .before .before .before .before .tail2 in
+    let if1 = c .before .before .before .before .before .if1 in
+    let at = c .before .before .before .before .before .before .at in
+    let lo = c .before .before .before .before .before .before .before .before .lo in
+    let s = c .before .before .before .before .before .before .before .before .before .before .before .before .before in
+    omega (
+      arith,
+      s .good .0,
+      s .pre,
+      byte-lt (s .args .text .now) (s .args .i + lo .given .0 .1 .1 .0) (omega (arith, at .ensures, if1 .left)),
+      literal-part
+          (s .args .text .now) (s .args .i + lo .given .0 .1 .1 .0 + 1) (tail2 .ensures)
+          (literal-is (literal (tail2 .result .now)) (read-literal2 .ensures) (c .before .hi .given .1) .1),
+    )
 
 ends-requires : tie.Need-ends-requires
-ends-requires c κs = omega (arith, c .before .before .before .before .before .before .before .before .before .before .before .before .before .good .0, c .before .before .before .before .before .before .before .before .before .before .before .before .before .pre, byte-lt (c .before .before .before .before .before .before .before .before .before .before .before .before .before .args .text .now) (c .before .before .before .before .before .before .before .before .before .before .before .before .before .args .i + c .before .before .before .before .before .before .before .before .lo .given .0 .1 .1 .0) (omega (arith, c .before .before .before .before .before .before .at .ensures, c .before .before .before .before .before .if1 .left)), literal-part (c .before .before .before .before .before .before .before .before .before .before .before .before .before .args .text .now) (c .before .before .before .before .before .before .before .before .before .before .before .before .before .args .i + c .before .before .before .before .before .before .before .before .lo .given .0 .1 .1 .0 + 1) (c .before .before .before .before .tail2 .ensures) (literal-is (literal (c .before .before .before .before .tail2 .result .now)) (c .before .before .before .read-literal2 .ensures) (c .before .hi .given .1) .1))
+ends-requires c κs =
+    let read-literal2 = c .before .before .before .read-literal2 in
+    let tail2 = c .before .before .before .before .tail2 in
+    let if1 = c .before .before .before .before .before .if1 in
+    let at = c .before .before .before .before .before .before .at in
+    let lo = c .before .before .before .before .before .before .before .before .lo in
+    let s = c .before .before .before .before .before .before .before .before .before .before .before .before .before in
+    omega (
+      arith,
+      s .good .0,
+      s .pre,
+      byte-lt (s .args .text .now) (s .args .i + lo .given .0 .1 .1 .0) (omega (arith, at .ensures, if1 .left)),
+      literal-part
+          (s .args .text .now) (s .args .i + lo .given .0 .1 .1 .0 + 1) (tail2 .ensures)
+          (literal-is (literal (tail2 .result .now)) (read-literal2 .ensures) (c .before .hi .given .1) .1),
+    )
 
 either-requires : tie.Need-either-requires
 either-requires c κs = search needs
@@ -61,16 +120,54 @@ enum-told-2 : tie.Need-enum-told-2
 enum-told-2 c = search needs
 
 returns-2 : tie.Need-returns-2
-returns-2 c = bounds-is (c .before .before .before .before .before .before .before .before .before .before .before .before .before .before .before .before .before .args .text .now) (c .before .before .before .before .before .before .before .before .before .before .before .before .before .before .before .before .before .args .held) (c .before .before .before .before .before .before .before .before .before .before .before .before .before .before .before .before .before .args .r) (c .before .before .before .before .before .before .before .before .before .before .before .before .before .before .before .before .before .args .i) (c .before .before .before .before .before .before .before .before .before .before .before .before .before .before .before .tail .ensures) (c .before .before .before .before .before .before .before .before .before .before .before .before .before .before .read-literal .ensures) (c .before .before .before .before .before .before .before .before .before .before .before .before .lo .given .1) (c .before .before .before .before .before .before .before .before .before .before .at .ensures) (c .before .before .before .before .before .before .before .before .before .if1 .left) (c .before .before .before .before .before .before .before .before .tail2 .ensures) (c .before .before .before .before .before .before .before .read-literal2 .ensures) (c .before .before .before .before .before .hi .given .1) (c .before .before .before .ends .ensures) (c .before .before .if2 .taken) (c .before .either .ensures) (c .range-line .ensures)
+returns-2 c =
+    let if2 = c .before .before .if2 in
+    let ends = c .before .before .before .ends in
+    let hi = c .before .before .before .before .before .hi in
+    let read-literal2 = c .before .before .before .before .before .before .before .read-literal2 in
+    let tail2 = c .before .before .before .before .before .before .before .before .tail2 in
+    let if1 = c .before .before .before .before .before .before .before .before .before .if1 in
+    let at = c .before .before .before .before .before .before .before .before .before .before .at in
+    let lo = c .before .before .before .before .before .before .before .before .before .before .before .before .lo in
+    let read-literal = c .before .before .before .before .before .before .before .before .before .before .before .before .before .before .read-literal in
+    let tail = c .before .before .before .before .before .before .before .before .before .before .before .before .before .before .before .tail in
+    let s = c .before .before .before .before .before .before .before .before .before .before .before .before .before .before .before .before .before in
+    bounds-is (s .args .text .now) (s .args .held) (s .args .r) (s .args .i) (tail .ensures) (read-literal .ensures) (lo .given .1) (at .ensures) (if1 .left) (tail2 .ensures)
+    (read-literal2 .ensures) (hi .given .1) (ends .ensures) (if2 .taken) (c .before .either .ensures) (c .range-line .ensures)
 
 returns-3 : tie.Need-returns-3
-returns-3 c = bounds-unended (c .before .before .before .before .before .before .before .before .before .before .before .before .before .before .before .args .text .now) (c .before .before .before .before .before .before .before .before .before .before .before .before .before .before .before .args .held) (c .before .before .before .before .before .before .before .before .before .before .before .before .before .before .before .args .r) (c .before .before .before .before .before .before .before .before .before .before .before .before .before .before .before .args .i) (c .before .before .before .before .before .before .before .before .before .before .before .before .before .tail .ensures) (c .before .before .before .before .before .before .before .before .before .before .before .before .read-literal .ensures) (c .before .before .before .before .before .before .before .before .before .before .lo .given .1) (c .before .before .before .before .before .before .before .before .at .ensures) (c .before .before .before .before .before .before .before .if1 .left) (c .before .before .before .before .before .before .tail2 .ensures) (c .before .before .before .before .before .read-literal2 .ensures) (c .before .before .before .hi .given .1) (c .before .ends .ensures) (c .if2 .left)
+returns-3 c =
+    let hi = c .before .before .before .hi in
+    let read-literal2 = c .before .before .before .before .before .read-literal2 in
+    let tail2 = c .before .before .before .before .before .before .tail2 in
+    let if1 = c .before .before .before .before .before .before .before .if1 in
+    let at = c .before .before .before .before .before .before .before .before .at in
+    let lo = c .before .before .before .before .before .before .before .before .before .before .lo in
+    let read-literal = c .before .before .before .before .before .before .before .before .before .before .before .before .read-literal in
+    let tail = c .before .before .before .before .before .before .before .before .before .before .before .before .before .tail in
+    let s = c .before .before .before .before .before .before .before .before .before .before .before .before .before .before .before in
+    bounds-unended (s .args .text .now) (s .args .held) (s .args .r) (s .args .i) (tail .ensures) (read-literal .ensures) (lo .given .1) (at .ensures) (if1 .left) (tail2 .ensures)
+    (read-literal2 .ensures) (hi .given .1) (c .before .ends .ensures) (c .if2 .left)
 
 returns-4 : tie.Need-returns-4
-returns-4 c = bounds-second-bad (c .before .before .before .before .before .before .before .before .before .before .before .before .args .text .now) (c .before .before .before .before .before .before .before .before .before .before .before .before .args .held) (c .before .before .before .before .before .before .before .before .before .before .before .before .args .r) (c .before .before .before .before .before .before .before .before .before .before .before .before .args .i) (c .before .before .before .before .before .before .before .before .before .before .tail .ensures) (c .before .before .before .before .before .before .before .before .before .read-literal .ensures) (c .before .before .before .before .before .before .before .lo .given .1) (c .before .before .before .before .before .at .ensures) (c .before .before .before .before .if1 .left) (c .before .before .before .tail2 .ensures) (c .before .before .read-literal2 .ensures) (c .enum-told .given .1)
+returns-4 c =
+    let read-literal2 = c .before .before .read-literal2 in
+    let tail2 = c .before .before .before .tail2 in
+    let if1 = c .before .before .before .before .if1 in
+    let at = c .before .before .before .before .before .at in
+    let lo = c .before .before .before .before .before .before .before .lo in
+    let read-literal = c .before .before .before .before .before .before .before .before .before .read-literal in
+    let tail = c .before .before .before .before .before .before .before .before .before .before .tail in
+    let s = c .before .before .before .before .before .before .before .before .before .before .before .before in
+    bounds-second-bad (s .args .text .now) (s .args .held) (s .args .r) (s .args .i) (tail .ensures) (read-literal .ensures) (lo .given .1) (at .ensures) (if1 .left)
+    (tail2 .ensures) (read-literal2 .ensures) (c .enum-told .given .1)
 
 returns-5 : tie.Need-returns-5
-returns-5 c = bounds-bad (c .before .before .before .before .before .args .text .now) (c .before .before .before .before .before .args .held) (c .before .before .before .before .before .args .r) (c .before .before .before .before .before .args .i) (c .before .before .before .tail .ensures) (c .before .before .read-literal .ensures) (c .enum-told2 .given .1)
+returns-5 c =
+    let read-literal = c .before .before .read-literal in
+    let tail = c .before .before .before .tail in
+    let s = c .before .before .before .before .before in
+    bounds-bad (s .args .text .now) (s .args .held) (s .args .r) (s .args .i) (tail .ensures) (read-literal .ensures) (c .enum-told2 .given .1)
 
 pub bounds-line-spec : {M : Type 1} → statement M
 bounds-line-spec =

@@ -27,13 +27,31 @@ part-mark-start : tie.Need-part-mark-start Inv-loop μ-loop
 part-mark-start c = omega (arith, c .before .line-end .ensures)
 
 part-mark-end : tie.Need-part-mark-end Inv-loop μ-loop
-part-mark-end c = omega (arith, marking-end (c .before .before .before .before .before .args .text .now) (c .before .before .before .before .before .args .n) (c .before .before .before .loop .marks) (c .before .before .before .loop .i) (c .before .before .before .loop .at) (c .before .before .before .loop .inv .1) (c .before .before .loop-test .taken) (c .before .line-end .ensures))
+part-mark-end c =
+    let loop-test = c .before .before .loop-test in
+    let m = c .before .before .before in
+    let s = c .before .before .before .before .before in
+    omega (
+      arith,
+      marking-end (s .args .text .now) (s .args .n) (m .loop .marks) (m .loop .i) (m .loop .at) (m .loop .inv .1) (loop-test .taken)
+          (c .before .line-end .ensures),
+    )
 
 mark-requires : tie.Need-mark-requires Inv-loop μ-loop
-mark-requires c κs = marking-readable (c .before .before .before .before .before .before .args .text .now) (c .before .before .before .before .before .before .args .n) (c .before .before .before .before .loop .marks) (c .before .before .before .before .loop .i) (c .before .before .before .before .loop .at) (c .before .before .before .before .loop .inv .1) (c .before .before .before .loop-test .taken) (c .before .before .line-end .ensures)
+mark-requires c κs =
+    let line-end = c .before .before .line-end in
+    let loop-test = c .before .before .before .loop-test in
+    let m = c .before .before .before .before in
+    let s = c .before .before .before .before .before .before in
+    marking-readable (s .args .text .now) (s .args .n) (m .loop .marks) (m .loop .i) (m .loop .at) (m .loop .inv .1) (loop-test .taken) (line-end .ensures)
 
 add-at : tie.Need-add-at Inv-loop μ-loop
-add-at c = omega (arith, marking-end (c .before .before .before .before .before .before .before .args .text .now) (c .before .before .before .before .before .before .before .args .n) (c .before .before .before .before .before .loop .marks) (c .before .before .before .before .before .loop .i) (c .before .before .before .before .before .loop .at) (c .before .before .before .before .before .loop .inv .1) (c .before .before .before .before .loop-test .taken) (c .before .before .before .line-end .ensures))
+add-at c =
+    let line-end = c .before .before .before .line-end in
+    let loop-test = c .before .before .before .before .loop-test in
+    let m = c .before .before .before .before .before in
+    let s = c .before .before .before .before .before .before .before in
+    omega (arith, marking-end (s .args .text .now) (s .args .n) (m .loop .marks) (m .loop .i) (m .loop .at) (m .loop .inv .1) (loop-test .taken) (line-end .ensures))
 
 add-i : tie.Need-add-i Inv-loop μ-loop
 add-i c = search needs
@@ -42,7 +60,15 @@ loop-less : tie.Need-loop-less Inv-loop μ-loop
 loop-less c = omega arith
 
 loop-again : tie.Need-loop-again Inv-loop μ-loop
-loop-again c = (omega arith, marking-next (c .before .before .before .before .before .before .before .args .text .now) (c .before .before .before .before .before .before .before .args .n) (c .before .before .before .before .before .loop .marks) (c .before .before .before .before .before .loop .i) (c .before .before .before .before .before .loop .at) (c .before .before .before .before .before .loop .inv .1) (c .before .before .before .before .loop-test .taken) (c .before .before .before .line-end .ensures) (c .mark .ensures))
+loop-again c =
+    let line-end = c .before .before .before .line-end in
+    let loop-test = c .before .before .before .before .loop-test in
+    let m = c .before .before .before .before .before in
+    let s = c .before .before .before .before .before .before .before in (
+      omega arith,
+      marking-next (s .args .text .now) (s .args .n) (m .loop .marks) (m .loop .i) (m .loop .at) (m .loop .inv .1) (loop-test .taken) (line-end .ensures)
+          (c .mark .ensures),
+    )
 
 returns : tie.Need-returns Inv-loop μ-loop
 returns c =

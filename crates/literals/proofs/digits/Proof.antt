@@ -27,7 +27,10 @@ shared-slice-read-if2 : tie.Need-shared-slice-read-if2 Inv-loop μ-loop
 shared-slice-read-if2 c = omega arith
 
 returns-2 : tie.Need-returns-2 Inv-loop μ-loop
-returns-2 c = omega (arith, digits-high (c .before .before .before .before .before .before .args .text .now) (c .before .before .before .before .before .loop .i) (omega arith) (omega arith) (omega arith))
+returns-2 c =
+    let m = c .before .before .before .before .before in
+    let s = c .before .before .before .before .before .before in
+    omega (arith, digits-high (s .args .text .now) (m .loop .i) (omega arith) (omega arith) (omega arith))
 
 add-i : tie.Need-add-i Inv-loop μ-loop
 add-i c = omega arith
@@ -36,7 +39,10 @@ loop-less : tie.Need-loop-less Inv-loop μ-loop
 loop-less c = omega arith
 
 loop-again : tie.Need-loop-again Inv-loop μ-loop
-loop-again c = omega (arith, digits-more (c .before .before .before .before .before .before .args .text .now) (c .before .before .before .before .before .loop .i) (omega arith) (omega arith) (omega arith))
+loop-again c =
+    let m = c .before .before .before .before .before in
+    let s = c .before .before .before .before .before .before in
+    omega (arith, digits-more (s .args .text .now) (m .loop .i) (omega arith) (omega arith) (omega arith))
 
 returns-3 : tie.Need-returns-3 Inv-loop μ-loop
 returns-3 c = omega (arith, digits-end (c .before .before .args .text .now) (c .before .loop .i) (omega arith))

@@ -18,10 +18,16 @@ mul-result : tie.Need-mul-result
 mul-result c = let h : (c .before .before .args .v) * scale (c .before .before .args .d) ≤ cap = scale-in (c .before .before .args .d) (c .before .before .args .v) (rw (c .before .scale .ensures) at (c .if1 .taken)) in record { fits = rw (c .before .scale .ensures) (omega arith) }
 
 returns : tie.Need-returns
-returns c = let h : (c .before .before .args .v) * scale (c .before .before .args .d) ≤ cap = scale-in (c .before .before .args .d) (c .before .before .args .v) (rw (c .before .scale .ensures) at (c .if1 .taken)) in rw (c .before .scale .ensures) (omega arith)
+returns c =
+    let s = c .before .before in
+    let h : (s .args .v) * scale (s .args .d) ≤ cap = scale-in (s .args .d) (s .args .v) (rw (c .before .scale .ensures) at (c .if1 .taken)) in
+    rw (c .before .scale .ensures) (omega arith)
 
 returns-2 : tie.Need-returns-2
-returns-2 c = let h : cap ≤ (c .before .before .args .v) * scale (c .before .before .args .d) = scale-out (c .before .before .args .d) (c .before .before .args .v) (rw (c .before .scale .ensures) at (c .if1 .left)) in omega arith
+returns-2 c =
+    let s = c .before .before in
+    let h : cap ≤ (s .args .v) * scale (s .args .d) = scale-out (s .args .d) (s .args .v) (rw (c .before .scale .ensures) at (c .if1 .left)) in
+    omega arith
 
 pub scaled-spec : {M : Type 1} → statement M
 scaled-spec = tie.close (tie.spec scale-requires div-if1 mul-result returns returns-2)

@@ -27,10 +27,16 @@ part-result-end-2 : tie.Need-part-result-end-2
 part-result-end-2 c = search needs
 
 returns : tie.Need-returns
-returns c = take-all (length (c .before .before .args .text .now) - (c .before .before .args .k)) (drop (c .before .before .args .k) (c .before .before .args .text .now)) (omega (arith, length-drop (c .before .before .args .k) (c .before .before .args .text .now)))
+returns c =
+    let s = c .before .before in
+    take-all (length (s .args .text .now) - (s .args .k)) (drop (s .args .k) (s .args .text .now)) (omega (arith, length-drop (s .args .k) (s .args .text .now)))
 
 returns-2 : tie.Need-returns-2
-returns-2 c = take-all (length (c .before .before .args .text .now) - length (c .before .before .args .text .now)) (drop (length (c .before .before .args .text .now)) (c .before .before .args .text .now)) (omega (arith, length-drop (length (c .before .before .args .text .now)) (c .before .before .args .text .now))) ∙ drop-length (c .before .before .args .text .now) ∙ sym (drop-of-length-le (c .before .before .args .text .now) {i = c .before .before .args .k} (omega arith))
+returns-2 c =
+    let s = c .before .before in
+    take-all (length (s .args .text .now) - length (s .args .text .now)) (drop (length (s .args .text .now)) (s .args .text .now)) (omega
+    (arith, length-drop (length (s .args .text .now)) (s .args .text .now))) ∙ drop-length (s .args .text .now) ∙ sym (drop-of-length-le (s .args .text .now)
+    {i = s .args .k} (omega arith))
 
 pub tail-spec : {M : Type 1} → statement M
 tail-spec =

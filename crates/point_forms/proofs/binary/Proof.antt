@@ -81,43 +81,72 @@ or-requires c κs = search needs
 
 returns : tie.Need-returns
 unfolding point2
-returns c = binary-is (c .before .before .before .args .op) (c .before .before .before .args .x) (c .before .before .before .args .y) (c .before .before .before .fits .x) (c .before .before .before .fits .y) sum (c .add .ok) (c .add .ensures) (rw (c .before .enum-told .given .1))
+returns c =
+    let s = c .before .before .before in
+    binary-is (s .args .op) (s .args .x) (s .args .y) (s .fits .x) (s .fits .y) sum (c .add .ok) (c .add .ensures) (rw (c .before .enum-told .given .1))
 
 returns-2 : tie.Need-returns-2
 unfolding point2
-returns-2 c = binary-is (c .before .before .before .args .op) (c .before .before .before .args .x) (c .before .before .before .args .y) (c .before .before .before .fits .x) (c .before .before .before .fits .y) difference (c .sub .ok) (c .sub .ensures) (rw (c .before .enum-told2 .given .1))
+returns-2 c =
+    let s = c .before .before .before in
+    binary-is (s .args .op) (s .args .x) (s .args .y) (s .fits .x) (s .fits .y) difference (c .sub .ok) (c .sub .ensures) (rw (c .before .enum-told2 .given .1))
 
 returns-3 : tie.Need-returns-3
 unfolding point2
-returns-3 c = binary-is (c .before .before .before .args .op) (c .before .before .before .args .x) (c .before .before .before .args .y) (c .before .before .before .fits .x) (c .before .before .before .fits .y) product (c .mul .ok) (c .mul .ensures) (rw (c .before .enum-told3 .given .1))
+returns-3 c =
+    let s = c .before .before .before in
+    binary-is (s .args .op) (s .args .x) (s .args .y) (s .fits .x) (s .fits .y) product (c .mul .ok) (c .mul .ensures) (rw (c .before .enum-told3 .given .1))
 
 returns-4 : tie.Need-returns-4
 unfolding point2
-returns-4 c = c .divided .ensures ∙ ap (λ (m : Option ℤ). orStop zeroDivisor m) (c .before .div .ensures ∙ (λ i. quotient (toZ-ofZ (c .before .before .before .before .fits .x) i) (toZ-ofZ (c .before .before .before .before .fits .y) i))) ∙ rw (c .before .before .enum-told4 .given .1)
+returns-4 c =
+    let enum-told4 = c .before .before .enum-told4 in
+    let s = c .before .before .before .before in
+    c .divided .ensures ∙ ap (λ (m : Option ℤ). orStop zeroDivisor m) (c .before .div .ensures ∙ (λ i. quotient (toZ-ofZ (s .fits .x) i) (toZ-ofZ (s .fits .y) i))) ∙ rw
+    (enum-told4 .given .1)
 
 returns-5 : tie.Need-returns-5
 unfolding point2
-returns-5 c = c .divided2 .ensures ∙ ap (λ (m : Option ℤ). orStop zeroDivisor m) (c .before .rem .ensures ∙ (λ i. remainder (toZ-ofZ (c .before .before .before .before .fits .x) i) (toZ-ofZ (c .before .before .before .before .fits .y) i))) ∙ rw (c .before .before .enum-told5 .given .1)
+returns-5 c =
+    let enum-told5 = c .before .before .enum-told5 in
+    let s = c .before .before .before .before in
+    c .divided2 .ensures ∙ ap (λ (m : Option ℤ). orStop zeroDivisor m) (c .before .rem .ensures ∙ (λ i. remainder (toZ-ofZ (s .fits .x) i) (toZ-ofZ (s .fits .y) i))) ∙
+    rw (enum-told5 .given .1)
 
 returns-6 : tie.Need-returns-6
 unfolding point2
-returns-6 c = binary-is (c .before .before .before .args .op) (c .before .before .before .args .x) (c .before .before .before .args .y) (c .before .before .before .fits .x) (c .before .before .before .fits .y) (λ a b. ofBool (leZ a b)) (c .le .ok) (c .le .ensures) (rw (c .before .enum-told6 .given .1))
+returns-6 c =
+    let s = c .before .before .before in
+    binary-is (s .args .op) (s .args .x) (s .args .y) (s .fits .x) (s .fits .y) (λ a b. ofBool (leZ a b)) (c .le .ok) (c .le .ensures) (rw
+    (c .before .enum-told6 .given .1))
 
 returns-7 : tie.Need-returns-7
 unfolding point2
-returns-7 c = binary-is (c .before .before .before .args .op) (c .before .before .before .args .x) (c .before .before .before .args .y) (c .before .before .before .fits .x) (c .before .before .before .fits .y) (λ a b. ofBool (ltZ a b)) (c .lt .ok) (c .lt .ensures) (rw (c .before .enum-told7 .given .1))
+returns-7 c =
+    let s = c .before .before .before in
+    binary-is (s .args .op) (s .args .x) (s .args .y) (s .fits .x) (s .fits .y) (λ a b. ofBool (ltZ a b)) (c .lt .ok) (c .lt .ensures) (rw
+    (c .before .enum-told7 .given .1))
 
 returns-8 : tie.Need-returns-8
 unfolding point2
-returns-8 c = binary-is (c .before .before .before .args .op) (c .before .before .before .args .x) (c .before .before .before .args .y) (c .before .before .before .fits .x) (c .before .before .before .fits .y) (λ a b. ofBool (not (eqZ a b))) (c .ne .ok) (c .ne .ensures) (rw (c .before .enum-told8 .given .1))
+returns-8 c =
+    let s = c .before .before .before in
+    binary-is (s .args .op) (s .args .x) (s .args .y) (s .fits .x) (s .fits .y) (λ a b. ofBool (not (eqZ a b))) (c .ne .ok) (c .ne .ensures) (rw
+    (c .before .enum-told8 .given .1))
 
 returns-9 : tie.Need-returns-9
 unfolding point2
-returns-9 c = binary-is (c .before .before .before .args .op) (c .before .before .before .args .x) (c .before .before .before .args .y) (c .before .before .before .fits .x) (c .before .before .before .fits .y) (λ a b. ofBool (truth a && truth b)) (c .and .ok) (c .and .ensures) (rw (c .before .enum-told9 .given .1))
+returns-9 c =
+    let s = c .before .before .before in
+    binary-is (s .args .op) (s .args .x) (s .args .y) (s .fits .x) (s .fits .y) (λ a b. ofBool (truth a && truth b)) (c .and .ok) (c .and .ensures) (rw
+    (c .before .enum-told9 .given .1))
 
 returns-10 : tie.Need-returns-10
 unfolding point2
-returns-10 c = binary-is (c .before .before .before .args .op) (c .before .before .before .args .x) (c .before .before .before .args .y) (c .before .before .before .fits .x) (c .before .before .before .fits .y) (λ a b. ofBool (truth a || truth b)) (c .or .ok) (c .or .ensures) (rw (c .before .enum-told10 .given .1))
+returns-10 c =
+    let s = c .before .before .before in
+    binary-is (s .args .op) (s .args .x) (s .args .y) (s .fits .x) (s .fits .y) (λ a b. ofBool (truth a || truth b)) (c .or .ok) (c .or .ensures) (rw
+    (c .before .enum-told10 .given .1))
 
 pub binary-spec : {M : Type 1} → statement M
 binary-spec =

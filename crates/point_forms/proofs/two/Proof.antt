@@ -27,7 +27,13 @@ enum-known-a-2 c = search needs
 
 returns : tie.Need-returns
 unfolding with2 bind
-returns c = let e : rd (c .before .before .before .before .before .a .given .0 .0) ≡ c .before .before .before .before .before .a .given .0 .0 = search needs in let h : rd (c .before .before .b .given .0 .0) ≡ c .before .before .b .given .0 .0 = search needs in c .binary .ensures ∙ (λ i. orStop zeroDivisor (point2 (op2Of (c .before .before .before .before .before .before .before .args .op)) (e i) (h i))) ∙ rw (c .before .before .before .before .before .a .given .1, c .before .before .b .given .1)
+returns c =
+    let b = c .before .before .b in
+    let a = c .before .before .before .before .before .a in
+    let s = c .before .before .before .before .before .before .before in
+    let e : rd (a .given .0 .0) ≡ a .given .0 .0 = search needs in
+    let h : rd (b .given .0 .0) ≡ b .given .0 .0 = search needs in
+    c .binary .ensures ∙ (λ i. orStop zeroDivisor (point2 (op2Of (s .args .op)) (e i) (h i))) ∙ rw (a .given .1, b .given .1)
 
 returns-2 : tie.Need-returns-2
 unfolding with2 bind

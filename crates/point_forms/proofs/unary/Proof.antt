@@ -27,15 +27,21 @@ not-requires c κs = search needs
 
 returns : tie.Need-returns
 unfolding point1
-returns c = unary-is (c .before .before .before .args .op) (c .before .before .before .args .x) (c .before .before .before .fits .x) negative (c .neg .ok) (c .neg .ensures) (rw (c .before .enum-told .given .1))
+returns c =
+    let s = c .before .before .before in
+    unary-is (s .args .op) (s .args .x) (s .fits .x) negative (c .neg .ok) (c .neg .ensures) (rw (c .before .enum-told .given .1))
 
 returns-2 : tie.Need-returns-2
 unfolding point1
-returns-2 c = unary-is (c .before .before .before .args .op) (c .before .before .before .args .x) (c .before .before .before .fits .x) absolute (c .abs .ok) (c .abs .ensures) (rw (c .before .enum-told2 .given .1))
+returns-2 c =
+    let s = c .before .before .before in
+    unary-is (s .args .op) (s .args .x) (s .fits .x) absolute (c .abs .ok) (c .abs .ensures) (rw (c .before .enum-told2 .given .1))
 
 returns-3 : tie.Need-returns-3
 unfolding point1
-returns-3 c = unary-is (c .before .before .before .args .op) (c .before .before .before .args .x) (c .before .before .before .fits .x) (λ (a : ℤ). ofBool (not (truth a))) (c .not .ok) (c .not .ensures) (rw (c .before .enum-told3 .given .1))
+returns-3 c =
+    let s = c .before .before .before in
+    unary-is (s .args .op) (s .args .x) (s .fits .x) (λ (a : ℤ). ofBool (not (truth a))) (c .not .ok) (c .not .ensures) (rw (c .before .enum-told3 .given .1))
 
 pub unary-spec : {M : Type 1} → statement M
 unary-spec =

@@ -15,7 +15,12 @@ enum-known-n : tie.Need-enum-known-n
 enum-known-n c = search needs
 
 work-requires : tie.Need-work-requires
-work-requires c κs = (c .before .before .before .before .before .if1 .left, fine-sheet (c .before .before .before .before .before .before .before .args .text .now) (c .before .before .before .before .judge-text .ensures .answer-is) (c .before .before .n .given .1))
+work-requires c κs =
+    let n = c .before .before .n in
+    let judge-text = c .before .before .before .before .judge-text in
+    let if1 = c .before .before .before .before .before .if1 in
+    let s = c .before .before .before .before .before .before .before in
+    (if1 .left, fine-sheet (s .args .text .now) (judge-text .ensures .answer-is) (n .given .1))
 
 enum-known-k : tie.Need-enum-known-k
 enum-known-k c = search needs
@@ -24,10 +29,18 @@ same-length : tie.Need-same-length
 same-length c = search needs
 
 returns-2 : tie.Need-returns-2
-returns-2 c = let e = c .before .work .ensures in ran-worked (c .before .before .before .before .before .before .before .before .before .args .text .now) (c .before .before .before .before .before .before .before .before .before .args .lent .now) (c .before .before .before .before .before .before .before .if1 .left) (e .0) (e .1)
+returns-2 c =
+    let if1 = c .before .before .before .before .before .before .before .if1 in
+    let s = c .before .before .before .before .before .before .before .before .before in
+    let e = c .before .work .ensures in
+    ran-worked (s .args .text .now) (s .args .lent .now) (if1 .left) (e .0) (e .1)
 
 returns-3 : tie.Need-returns-3
-returns-3 c = ran-refused (c .before .before .before .before .before .before .args .text .now) (c .before .before .before .before .before .before .args .lent .now) (c .before .before .before .before .if1 .left) (c .before .before .before .judge-text .ensures .answer-is) (c .before .k .given .1)
+returns-3 c =
+    let judge-text = c .before .before .before .judge-text in
+    let if1 = c .before .before .before .before .if1 in
+    let s = c .before .before .before .before .before .before in
+    ran-refused (s .args .text .now) (s .args .lent .now) (if1 .left) (judge-text .ensures .answer-is) (c .before .k .given .1)
 
 pub run-spec : {M : Type 1} → statement M
 run-spec =

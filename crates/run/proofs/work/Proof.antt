@@ -26,7 +26,13 @@ copy-front-requires : tie.Need-copy-front-requires Inv-loop μ-loop
 copy-front-requires c κs = let h = c .before .before .before .pre .0 in (omega (arith, h), omega (arith, h))
 
 loop-holds : tie.Need-loop-holds Inv-loop μ-loop
-loop-holds c = (running-start (c .before .before .before .before .before .args .text .now) (c .before .before .before .before .before .args .lent .now) (c .before .before .before .before .before .args .count) (c .before .before .before .before .before .pre .1), refl, c .before .copy-front .ensures ∙ copied-is (c .before .before .before .before .before .args .lent .now) _ refl (c .before .before .before .before .before .pre .0))
+loop-holds c =
+    let s = c .before .before .before .before .before in (
+      running-start (s .args .text .now) (s .args .lent .now) (s .args .count) (s .pre .1),
+      refl,
+      c .before .copy-front .ensures ∙ copied-is (s .args .lent .now) _ refl
+          (s .pre .0),
+    )
 
 line-end-requires : tie.Need-line-end-requires Inv-loop μ-loop
 line-end-requires c κs = search needs
@@ -41,7 +47,10 @@ part-run-line-start : tie.Need-part-run-line-start Inv-loop μ-loop
 part-run-line-start c = omega (arith, c .line-end .ensures)
 
 part-run-line-end : tie.Need-part-run-line-end Inv-loop μ-loop
-part-run-line-end c = omega (arith, end-lt (c .before .before .before .before .before .before .before .before .args .text .now) (c .before .before .loop .at) (c .line-end .ensures) (c .before .loop-test .taken) (c .before .before .loop .inv .0 .walk .ended))
+part-run-line-end c =
+    let m = c .before .before in
+    let s = c .before .before .before .before .before .before .before .before in
+    omega (arith, end-lt (s .args .text .now) (m .loop .at) (c .line-end .ensures) (c .before .loop-test .taken) (m .loop .inv .0 .walk .ended))
 
 run-line-requires : tie.Need-run-line-requires Inv-loop μ-loop
 run-line-requires c κs = search needs
@@ -50,40 +59,103 @@ enum-known-step : tie.Need-enum-known-step Inv-loop μ-loop
 enum-known-step c = search needs
 
 slice-aggregate-copy-front-2 : tie.Need-slice-aggregate-copy-front-2 Inv-loop μ-loop
-slice-aggregate-copy-front-2 c = sym (stop-size (c .before .before .before .before .before .before .before .before .before .before .before .before .before .before .before .before .before .args .text .now) (c .before .before .before .before .before .before .before .before .before .before .before .before .before .before .before .before .before .args .lent .now) (c .before .before .before .before .before .before .before .before .before .before .before .loop .state) (c .before .before .before .before .before .before .before .before .before .before .before .before .before .before .before .before .before .args .count) (c .before .before .before .before .before .before .before .before .before .before .before .loop .n) (c .before .before .before .before .before .before .before .before .before .before .before .loop .at) (c .before .before .before .before .before .before .before .before .before .before .before .loop .inv .0) (c .before .before .before .before .before .before .before .before .before .before .loop-test .taken) (c .before .before .before .before .before .before .before .before .before .line-end .ensures) (c .before .before .before .before .before .before .before .before .before .before .before .loop .inv .2) (c .before .before .before .before .before .run-line .ensures) (c .before .before .before .step .given .1))
+slice-aggregate-copy-front-2 c =
+    let step = c .before .before .before .step in
+    let run-line = c .before .before .before .before .before .run-line in
+    let line-end = c .before .before .before .before .before .before .before .before .before .line-end in
+    let loop-test = c .before .before .before .before .before .before .before .before .before .before .loop-test in
+    let m = c .before .before .before .before .before .before .before .before .before .before .before in
+    let s = c .before .before .before .before .before .before .before .before .before .before .before .before .before .before .before .before .before in
+    sym (stop-size (s .args .text .now) (s .args .lent .now) (m .loop .state) (s .args .count) (m .loop .n) (m .loop .at) (m .loop .inv .0) (loop-test .taken)
+    (line-end .ensures) (m .loop .inv .2) (run-line .ensures) (step .given .1))
 
 copy-front-requires-2 : tie.Need-copy-front-requires-2 Inv-loop μ-loop
-copy-front-requires-2 c κs = (omega (arith, stop-size (c .before .before .before .before .before .before .before .before .before .before .before .before .before .before .before .before .before .args .text .now) (c .before .before .before .before .before .before .before .before .before .before .before .before .before .before .before .before .before .args .lent .now) (c .before .before .before .before .before .before .before .before .before .before .before .loop .state) (c .before .before .before .before .before .before .before .before .before .before .before .before .before .before .before .before .before .args .count) (c .before .before .before .before .before .before .before .before .before .before .before .loop .n) (c .before .before .before .before .before .before .before .before .before .before .before .loop .at) (c .before .before .before .before .before .before .before .before .before .before .before .loop .inv .0) (c .before .before .before .before .before .before .before .before .before .before .loop-test .taken) (c .before .before .before .before .before .before .before .before .before .line-end .ensures) (c .before .before .before .before .before .before .before .before .before .before .before .loop .inv .2) (c .before .before .before .before .before .run-line .ensures) (c .before .before .before .step .given .1)), omega (arith, ap length (c .before .before .before .before .before .before .before .before .before .before .before .loop .inv .1), c .before .before .before .before .before .before .before .before .before .before .before .before .before .before .before .before .before .pre .0))
+copy-front-requires-2 c κs =
+    let step = c .before .before .before .step in
+    let run-line = c .before .before .before .before .before .run-line in
+    let line-end = c .before .before .before .before .before .before .before .before .before .line-end in
+    let loop-test = c .before .before .before .before .before .before .before .before .before .before .loop-test in
+    let m = c .before .before .before .before .before .before .before .before .before .before .before in
+    let s = c .before .before .before .before .before .before .before .before .before .before .before .before .before .before .before .before .before in (
+      omega (
+        arith,
+        stop-size (s .args .text .now) (s .args .lent .now) (m .loop .state) (s .args .count) (m .loop .n) (m .loop .at) (m .loop .inv .0) (loop-test .taken)
+            (line-end .ensures) (m .loop .inv .2) (run-line .ensures) (step .given .1),
+      ),
+      omega (arith, ap length (m .loop .inv .1), s .pre .0),
+    )
 
 same-length : tie.Need-same-length Inv-loop μ-loop
 same-length c = c .before .copy-front2 .kept .0 ∙ ap length (c .before .before .before .before .before .before .before .before .before .before .before .before .before .loop .inv .1)
 
 returns : tie.Need-returns Inv-loop μ-loop
-returns c = let e = running-stop (c .before .before .before .before .before .before .before .before .before .before .before .before .before .before .before .before .before .before .before .args .text .now) (c .before .before .before .before .before .before .before .before .before .before .before .before .before .before .before .before .before .before .before .args .lent .now) (c .before .before .before .before .before .before .before .before .before .before .before .before .before .loop .state) (c .before .before .before .before .before .before .before .before .before .before .before .before .before .before .before .before .before .before .before .args .count) (c .before .before .before .before .before .before .before .before .before .before .before .before .before .loop .n) (c .before .before .before .before .before .before .before .before .before .before .before .before .before .loop .at) (c .before .before .before .before .before .before .before .before .before .before .before .before .before .loop .inv .0) (c .before .before .before .before .before .before .before .before .before .before .before .before .loop-test .taken) (c .before .before .before .before .before .before .before .before .before .before .before .line-end .ensures) (c .before .before .before .before .before .before .before .before .before .before .before .before .before .loop .inv .2) (c .before .before .before .before .before .before .before .run-line .ensures) (c .before .before .before .before .before .step .given .1) in (sym (ap answerFor e), c .before .copy-front2 .ensures ∙ written-is _ _ (stop-size (c .before .before .before .before .before .before .before .before .before .before .before .before .before .before .before .before .before .before .before .args .text .now) (c .before .before .before .before .before .before .before .before .before .before .before .before .before .before .before .before .before .before .before .args .lent .now) (c .before .before .before .before .before .before .before .before .before .before .before .before .before .loop .state) (c .before .before .before .before .before .before .before .before .before .before .before .before .before .before .before .before .before .before .before .args .count) (c .before .before .before .before .before .before .before .before .before .before .before .before .before .loop .n) (c .before .before .before .before .before .before .before .before .before .before .before .before .before .loop .at) (c .before .before .before .before .before .before .before .before .before .before .before .before .before .loop .inv .0) (c .before .before .before .before .before .before .before .before .before .before .before .before .loop-test .taken) (c .before .before .before .before .before .before .before .before .before .before .before .line-end .ensures) (c .before .before .before .before .before .before .before .before .before .before .before .before .before .loop .inv .2) (c .before .before .before .before .before .before .before .run-line .ensures) (c .before .before .before .before .before .step .given .1)) ∙ ap (over _) (c .before .before .before .before .before .before .before .before .before .before .before .before .before .loop .inv .1) ∙ sym (ap (leftBy (c .before .before .before .before .before .before .before .before .before .before .before .before .before .before .before .before .before .before .before .args .lent .now)) e))
+returns c =
+    let step = c .before .before .before .before .before .step in
+    let run-line = c .before .before .before .before .before .before .before .run-line in
+    let line-end = c .before .before .before .before .before .before .before .before .before .before .before .line-end in
+    let loop-test = c .before .before .before .before .before .before .before .before .before .before .before .before .loop-test in
+    let m = c .before .before .before .before .before .before .before .before .before .before .before .before .before in
+    let s = c .before .before .before .before .before .before .before .before .before .before .before .before .before .before .before .before .before .before .before in
+    let e = running-stop (s .args .text .now) (s .args .lent .now) (m .loop .state) (s .args .count) (m .loop .n) (m .loop .at) (m .loop .inv .0) (loop-test .taken) (line-end .ensures) (m .loop .inv .2) (run-line .ensures) (step .given .1) in (
+      sym (ap answerFor e),
+      c .before .copy-front2 .ensures ∙ written-is _ _ (stop-size (s .args .text .now) (s .args .lent .now) (m .loop .state) (s .args .count) (m .loop .n)
+          (m .loop .at) (m .loop .inv .0) (loop-test .taken) (line-end .ensures) (m .loop .inv .2) (run-line .ensures) (step .given .1)) ∙ ap (over _) (m .loop .inv .1) ∙ sym
+          (ap (leftBy (s .args .lent .now)) e),
+    )
 
 enum-told : tie.Need-enum-told Inv-loop μ-loop
 enum-told c = search needs
 
 add-at : tie.Need-add-at Inv-loop μ-loop
-add-at c = omega (arith, end-lt (c .before .before .before .before .before .before .before .before .before .before .before .before .before .before .args .text .now) (c .before .before .before .before .before .before .before .before .loop .at) (c .before .before .before .before .before .before .line-end .ensures) (c .before .before .before .before .before .before .before .loop-test .taken) (c .before .before .before .before .before .before .before .before .loop .inv .0 .walk .ended))
+add-at c =
+    let line-end = c .before .before .before .before .before .before .line-end in
+    let loop-test = c .before .before .before .before .before .before .before .loop-test in
+    let m = c .before .before .before .before .before .before .before .before in
+    let s = c .before .before .before .before .before .before .before .before .before .before .before .before .before .before in
+    omega (arith, end-lt (s .args .text .now) (m .loop .at) (line-end .ensures) (loop-test .taken) (m .loop .inv .0 .walk .ended))
 
 loop-less : tie.Need-loop-less Inv-loop μ-loop
-loop-less c = omega (arith, end-lt (c .before .before .before .before .before .before .before .before .before .before .before .before .before .before .args .text .now) (c .before .before .before .before .before .before .before .before .loop .at) (c .before .before .before .before .before .before .line-end .ensures) (c .before .before .before .before .before .before .before .loop-test .taken) (c .before .before .before .before .before .before .before .before .loop .inv .0 .walk .ended), c .before .before .before .before .before .before .line-end .ensures)
+loop-less c =
+    let line-end = c .before .before .before .before .before .before .line-end in
+    let loop-test = c .before .before .before .before .before .before .before .loop-test in
+    let m = c .before .before .before .before .before .before .before .before in
+    let s = c .before .before .before .before .before .before .before .before .before .before .before .before .before .before in
+    omega (arith, end-lt (s .args .text .now) (m .loop .at) (line-end .ensures) (loop-test .taken) (m .loop .inv .0 .walk .ended), line-end .ensures)
 
 loop-again : tie.Need-loop-again Inv-loop μ-loop
-loop-again c = (running-next (c .before .before .before .before .before .before .before .before .before .before .before .before .before .before .args .text .now) (c .before .before .before .before .before .before .before .before .before .before .before .before .before .before .args .lent .now) (c .before .before .before .before .before .before .before .before .loop .state) (c .before .before .before .before .before .before .before .before .before .before .before .before .before .before .args .count) (c .before .before .before .before .before .before .before .before .loop .n) (c .before .before .before .before .before .before .before .before .loop .at) (c .before .before .before .before .before .before .before .before .loop .inv .0) (c .before .before .before .before .before .before .before .loop-test .taken) (c .before .before .before .before .before .before .line-end .ensures) (c .before .before .before .before .before .before .before .before .loop .inv .2) (c .before .before .run-line .ensures) (c .enum-told .given .1), c .before .before .before .before .before .before .before .before .loop .inv .1, c .before .before .before .before .before .before .before .before .loop .inv .2)
+loop-again c =
+    let run-line = c .before .before .run-line in
+    let line-end = c .before .before .before .before .before .before .line-end in
+    let loop-test = c .before .before .before .before .before .before .before .loop-test in
+    let m = c .before .before .before .before .before .before .before .before in
+    let s = c .before .before .before .before .before .before .before .before .before .before .before .before .before .before in (
+      running-next (s .args .text .now) (s .args .lent .now) (m .loop .state) (s .args .count) (m .loop .n) (m .loop .at) (m .loop .inv .0) (loop-test .taken)
+          (line-end .ensures) (m .loop .inv .2) (run-line .ensures) (c .enum-told .given .1),
+      m .loop .inv .1,
+      m .loop .inv .2,
+    )
 
 slice-aggregate-copy-front-3 : tie.Need-slice-aggregate-copy-front-3 Inv-loop μ-loop
 slice-aggregate-copy-front-3 c = search needs
 
 copy-front-requires-3 : tie.Need-copy-front-requires-3 Inv-loop μ-loop
-copy-front-requires-3 c κs = (omega (arith, c .before .before .before .loop .inv .0 .size), omega (arith, ap length (c .before .before .before .loop .inv .1), c .before .before .before .before .before .before .before .before .before .pre .0))
+copy-front-requires-3 c κs =
+    let m = c .before .before .before in
+    let s = c .before .before .before .before .before .before .before .before .before in
+    (omega (arith, m .loop .inv .0 .size), omega (arith, ap length (m .loop .inv .1), s .pre .0))
 
 same-length-2 : tie.Need-same-length-2 Inv-loop μ-loop
 same-length-2 c = search needs
 
 returns-2 : tie.Need-returns-2 Inv-loop μ-loop
-returns-2 c = let e = running-done (c .before .before .before .before .before .before .before .before .before .before .before .args .text .now) (c .before .before .before .before .before .before .before .before .before .before .before .args .lent .now) (c .before .before .before .before .before .loop .state) (c .before .before .before .before .before .before .before .before .before .before .before .args .count) (c .before .before .before .before .before .loop .n) (c .before .before .before .before .before .loop .at) (c .before .before .before .before .before .loop .inv .0) (omega arith) in (sym (ap answerFor e), c .before .copy-front3 .ensures ∙ written-is _ _ (c .before .before .before .before .before .loop .inv .0 .size) ∙ ap (over _) (c .before .before .before .before .before .loop .inv .1) ∙ sym (ap (leftBy (c .before .before .before .before .before .before .before .before .before .before .before .args .lent .now)) e))
+returns-2 c =
+    let m = c .before .before .before .before .before in
+    let s = c .before .before .before .before .before .before .before .before .before .before .before in
+    let e = running-done (s .args .text .now) (s .args .lent .now) (m .loop .state) (s .args .count) (m .loop .n) (m .loop .at) (m .loop .inv .0) (omega arith) in (
+      sym (ap answerFor e),
+      c .before .copy-front3 .ensures ∙ written-is _ _ (m .loop .inv .0 .size) ∙ ap (over _) (m .loop .inv .1) ∙ sym
+          (ap (leftBy (s .args .lent .now)) e),
+    )
 
 pub work-spec : {M : Type 1} → statement M
 work-spec =

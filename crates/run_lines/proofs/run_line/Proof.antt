@@ -17,16 +17,26 @@ enum-known-r : tie.Need-enum-known-r
 enum-known-r c = search needs
 
 mul-x : tie.Need-mul-x
-mul-x c = omega (arith, in-there (c .before .before .before .before .before .args .lent .now) (c .before .before .before .before .before .args .state .now) (c .before .before .before .before .before .args .text .now) (c .before .before .before .read-line .result) (c .before .before .before .read-line .ensures) (c .before .r .given .1))
+mul-x c =
+    let read-line = c .before .before .before .read-line in
+    let s = c .before .before .before .before .before in
+    omega (arith, in-there (s .args .lent .now) (s .args .state .now) (s .args .text .now) (read-line .result) (read-line .ensures) (c .before .r .given .1))
 
 element-copy-out-x : tie.Need-element-copy-out-x
-element-copy-out-x c = in-there (c .before .before .before .before .before .args .lent .now) (c .before .before .before .before .before .args .state .now) (c .before .before .before .before .before .args .text .now) (c .before .before .before .read-line .result) (c .before .before .before .read-line .ensures) (c .before .r .given .1)
+element-copy-out-x c =
+    let read-line = c .before .before .before .read-line in
+    let s = c .before .before .before .before .before in
+    in-there (s .args .lent .now) (s .args .state .now) (s .args .text .now) (read-line .result) (read-line .ensures) (c .before .r .given .1)
 
 within-requires : tie.Need-within-requires
 within-requires c κs = search needs
 
 take-requires : tie.Need-take-requires
-take-requires c κs = in-there (c .before .before .before .before .before .before .before .before .args .lent .now) (c .before .before .before .before .before .before .before .before .args .state .now) (c .before .before .before .before .before .before .before .before .args .text .now) (c .before .before .before .before .before .before .read-line .result) (c .before .before .before .before .before .before .read-line .ensures) (c .before .before .before .before .r .given .1)
+take-requires c κs =
+    let r = c .before .before .before .before .r in
+    let read-line = c .before .before .before .before .before .before .read-line in
+    let s = c .before .before .before .before .before .before .before .before in
+    in-there (s .args .lent .now) (s .args .state .now) (s .args .text .now) (read-line .result) (read-line .ensures) (r .given .1)
 
 go-if-requires : tie.Need-go-if-requires
 go-if-requires c κs = search needs
@@ -41,7 +51,11 @@ enum-known-z : tie.Need-enum-known-z
 enum-known-z c = search needs
 
 take-requires-2 : tie.Need-take-requires-2
-take-requires-2 c κs = put-there (c .before .before .before .before .before .before .before .before .before .before .before .args .lent .now) (c .before .before .before .before .before .before .before .before .before .before .before .args .state .now) (c .before .before .before .before .before .before .before .before .before .before .before .args .text .now) (c .before .before .before .before .before .before .before .before .before .read-line .result) (c .before .before .before .before .before .before .before .before .before .read-line .ensures) (c .before .before .before .before .before .before .before .r2 .given .1)
+take-requires-2 c κs =
+    let r2 = c .before .before .before .before .before .before .before .r2 in
+    let read-line = c .before .before .before .before .before .before .before .before .before .read-line in
+    let s = c .before .before .before .before .before .before .before .before .before .before .before in
+    put-there (s .args .lent .now) (s .args .state .now) (s .args .text .now) (read-line .result) (read-line .ensures) (r2 .given .1)
 
 enum-known-k : tie.Need-enum-known-k
 enum-known-k c = search needs
@@ -50,10 +64,16 @@ enum-known-r-3 : tie.Need-enum-known-r-3
 enum-known-r-3 c = search needs
 
 mul-within : tie.Need-mul-within
-mul-within c = omega (arith, hold-there (c .before .before .before .before .before .args .lent .now) (c .before .before .before .before .before .args .state .now) (c .before .before .before .before .before .args .text .now) (c .before .before .before .read-line .result) (c .before .before .before .read-line .ensures) (c .before .r3 .given .1))
+mul-within c =
+    let read-line = c .before .before .before .read-line in
+    let s = c .before .before .before .before .before in
+    omega (arith, hold-there (s .args .lent .now) (s .args .state .now) (s .args .text .now) (read-line .result) (read-line .ensures) (c .before .r3 .given .1))
 
 element-copy-out-within : tie.Need-element-copy-out-within
-element-copy-out-within c = hold-there (c .before .before .before .before .before .args .lent .now) (c .before .before .before .before .before .args .state .now) (c .before .before .before .before .before .args .text .now) (c .before .before .before .read-line .result) (c .before .before .before .read-line .ensures) (c .before .r3 .given .1)
+element-copy-out-within c =
+    let read-line = c .before .before .before .read-line in
+    let s = c .before .before .before .before .before in
+    hold-there (s .args .lent .now) (s .args .state .now) (s .args .text .now) (read-line .result) (read-line .ensures) (c .before .r3 .given .1)
 
 within-requires-2 : tie.Need-within-requires-2
 within-requires-2 c κs = search needs
@@ -65,19 +85,55 @@ enum-known-k-2 : tie.Need-enum-known-k-2
 enum-known-k-2 c = search needs
 
 returns : tie.Need-returns
-returns c = let el : rd (c .before .before .before .before .before .before .r .given .0 .1 .0) ≡ c .before .before .before .before .before .before .r .given .0 .1 .0 = search needs in let eh : rd (c .before .before .before .before .before .before .r .given .0 .1 .1 .0) ≡ c .before .before .before .before .before .before .r .given .0 .1 .1 .0 = search needs in let ex = toZ-ofZ (fit _ (c .before .before .before .before .x .given)) in in-steps (c .before .before .before .before .before .before .before .before .before .before .args .lent .now) (c .before .before .before .before .before .before .before .before .before .before .args .state .now) (c .before .before .before .before .before .before .before .before .before .before .args .text .now) (c .before .before .before .before .before .before .before .before .read-line .result) (c .before .before .before .before .before .before .before .before .read-line .ensures) (c .before .before .before .before .before .before .r .given .1) ex (c .before .before .before .within .ensures ∙ (λ i. within (el i) (ex i) (eh i))) (c .before .take .ensures) (c .go-if .ensures)
+returns c =
+    let within₀ = c .before .before .before .within in
+    let x = c .before .before .before .before .x in
+    let r = c .before .before .before .before .before .before .r in
+    let read-line = c .before .before .before .before .before .before .before .before .read-line in
+    let s = c .before .before .before .before .before .before .before .before .before .before in
+    let el : rd (r .given .0 .1 .0) ≡ r .given .0 .1 .0 = search needs in
+    let eh : rd (r .given .0 .1 .1 .0) ≡ r .given .0 .1 .1 .0 = search needs in
+    let ex = toZ-ofZ (fit _ (x .given)) in
+    in-steps (s .args .lent .now) (s .args .state .now) (s .args .text .now) (read-line .result) (read-line .ensures) (r .given .1) ex (within₀ .ensures ∙
+    (λ i. within (el i) (ex i) (eh i))) (c .before .take .ensures) (c .go-if .ensures)
 
 returns-2 : tie.Need-returns-2
-returns-2 c = let e : rd (c .before .before .before .z .given .0 .0) ≡ c .before .before .before .z .given .0 .0 = search needs in put-goes (c .before .before .before .before .before .before .before .before .before .before .before .before .args .lent .now) (c .before .before .before .before .before .before .before .before .before .before .before .before .args .state .now) (c .before .before .before .before .before .before .before .before .before .before .before .before .args .text .now) (c .before .before .before .before .before .before .before .before .before .before .read-line .result) (c .before .before .before .before .before .before .before .before .before .before .read-line .ensures) (c .before .before .before .before .before .before .before .before .r2 .given .1) (c .before .before .before .before .before .value-at .result) (c .before .before .before .before .before .value-at .ensures) (c .before .before .before .z .given .1 ∙ ap num.Is (sym e)) (c .take2 .ensures)
+returns-2 c =
+    let z = c .before .before .before .z in
+    let value-at = c .before .before .before .before .before .value-at in
+    let r2 = c .before .before .before .before .before .before .before .before .r2 in
+    let read-line = c .before .before .before .before .before .before .before .before .before .before .read-line in
+    let s = c .before .before .before .before .before .before .before .before .before .before .before .before in
+    let e : rd (z .given .0 .0) ≡ z .given .0 .0 = search needs in
+    put-goes (s .args .lent .now) (s .args .state .now) (s .args .text .now) (read-line .result) (read-line .ensures) (r2 .given .1) (value-at .result) (value-at .ensures)
+    (z .given .1 ∙ ap num.Is (sym e)) (c .take2 .ensures)
 
 returns-3 : tie.Need-returns-3
-returns-3 c = put-halts (c .before .before .before .before .before .before .before .before .before .before .args .lent .now) (c .before .before .before .before .before .before .before .before .before .before .args .state .now) (c .before .before .before .before .before .before .before .before .before .before .args .text .now) (c .before .before .before .before .before .before .before .before .read-line .result) (c .before .before .before .before .before .before .before .before .read-line .ensures) (c .before .before .before .before .before .before .r2 .given .1) (c .before .before .before .value-at .result) (c .before .before .before .value-at .ensures) (c .before .k .given .1)
+returns-3 c =
+    let value-at = c .before .before .before .value-at in
+    let r2 = c .before .before .before .before .before .before .r2 in
+    let read-line = c .before .before .before .before .before .before .before .before .read-line in
+    let s = c .before .before .before .before .before .before .before .before .before .before in
+    put-halts (s .args .lent .now) (s .args .state .now) (s .args .text .now) (read-line .result) (read-line .ensures) (r2 .given .1) (value-at .result) (value-at .ensures)
+    (c .before .k .given .1)
 
 returns-4 : tie.Need-returns-4
-returns-4 c = let el : rd (c .before .before .before .before .r3 .given .0 .1 .0) ≡ c .before .before .before .before .r3 .given .0 .1 .0 = search needs in let eh : rd (c .before .before .before .before .r3 .given .0 .1 .1 .0) ≡ c .before .before .before .before .r3 .given .0 .1 .1 .0 = search needs in let ex = toZ-ofZ (fit _ (c .before .before .within-arg .given)) in hold-steps (c .before .before .before .before .before .before .before .before .args .lent .now) (c .before .before .before .before .before .before .before .before .args .state .now) (c .before .before .before .before .before .before .before .before .args .text .now) (c .before .before .before .before .before .before .read-line .result) (c .before .before .before .before .before .before .read-line .ensures) (c .before .before .before .before .r3 .given .1) (c .before .within2 .ensures ∙ (λ i. within (el i) (ex i) (eh i))) (c .go-if2 .ensures)
+returns-4 c =
+    let within-arg = c .before .before .within-arg in
+    let r3 = c .before .before .before .before .r3 in
+    let read-line = c .before .before .before .before .before .before .read-line in
+    let s = c .before .before .before .before .before .before .before .before in
+    let el : rd (r3 .given .0 .1 .0) ≡ r3 .given .0 .1 .0 = search needs in
+    let eh : rd (r3 .given .0 .1 .1 .0) ≡ r3 .given .0 .1 .1 .0 = search needs in
+    let ex = toZ-ofZ (fit _ (within-arg .given)) in
+    hold-steps (s .args .lent .now) (s .args .state .now) (s .args .text .now) (read-line .result) (read-line .ensures) (r3 .given .1) (c .before .within2 .ensures ∙
+    (λ i. within (el i) (ex i) (eh i))) (c .go-if2 .ensures)
 
 returns-5 : tie.Need-returns-5
-returns-5 c = refused-halts (c .before .before .before .before .before .args .lent .now) (c .before .before .before .before .before .args .state .now) (c .before .before .before .before .before .args .text .now) (c .before .before .before .read-line .result) (c .before .before .before .read-line .ensures) (c .before .k2 .given .1)
+returns-5 c =
+    let read-line = c .before .before .before .read-line in
+    let s = c .before .before .before .before .before in
+    refused-halts (s .args .lent .now) (s .args .state .now) (s .args .text .now) (read-line .result) (read-line .ensures) (c .before .k2 .given .1)
 
 pub run-line-spec : {M : Type 1} → statement M
 run-line-spec =

@@ -14,7 +14,10 @@ element-set-from-x : tie.Need-element-set-from-x
 element-set-from-x c = search needs
 
 returns : tie.Need-returns
-returns c = ap (set (c .before .args .state .now) (c .before .args .r)) (toZ-ofZ (c .before .fits .x)) ∙ sym (ap (λ (b : Bool). cond b (set (c .before .args .state .now) (c .before .args .r) (c .before .args .x)) (c .before .args .state .now)) (c .if1 .taken))
+returns c =
+    let s = c .before in
+    ap (set (s .args .state .now) (s .args .r)) (toZ-ofZ (s .fits .x)) ∙ sym (ap
+    (λ (b : Bool). cond b (set (s .args .state .now) (s .args .r) (s .args .x)) (s .args .state .now)) (c .if1 .taken))
 
 returns-2 : tie.Need-returns-2
 returns-2 c = search needs

@@ -21,7 +21,13 @@ shared-slice-copy-out-result : tie.Need-shared-slice-copy-out-result
 shared-slice-copy-out-result c = search needs
 
 returns : tie.Need-returns
-returns c = let lo = toZ-ofZ (c .before .before .before .fits .lo) in let hi = toZ-ofZ (c .before .before .before .fits .hi) in let t = rw (lo, toZ-ofZ (sfits-of (c .before .before .if12 .given))) at (c .before .if1 .taken) in rw (toZ-ofZ (sfits-of (c .result .given)), hi, t)
+returns c =
+    let if12 = c .before .before .if12 in
+    let s = c .before .before .before in
+    let lo = toZ-ofZ (s .fits .lo) in
+    let hi = toZ-ofZ (s .fits .hi) in
+    let t = rw (lo, toZ-ofZ (sfits-of (if12 .given))) at (c .before .if1 .taken) in
+    rw (toZ-ofZ (sfits-of (c .result .given)), hi, t)
 
 returns-2 : tie.Need-returns-2
 returns-2 c = let lo = toZ-ofZ (c .before .before .fits .lo) in let t = rw (lo, toZ-ofZ (sfits-of (c .before .if12 .given))) at (c .if1 .left) in rw t

@@ -40,13 +40,22 @@ slice-aggregate-copy-front : tie.Need-slice-aggregate-copy-front
 slice-aggregate-copy-front c = search needs
 
 copy-front-requires : tie.Need-copy-front-requires
-copy-front-requires c κs = (let h = c .before .before .before .before .pre .3 in omega arith, give-room (c .before .before .before .before .args .regs .now) (c .before .before .before .before .args .r) _ (c .before .before .before .before .pre .0) (c .before .before .before .before .pre .1))
+copy-front-requires c κs =
+    let s = c .before .before .before .before in
+    (let h = s .pre .3 in omega arith, give-room (s .args .regs .now) (s .args .r) _ (s .pre .0) (s .pre .1))
 
 same-length : tie.Need-same-length
-same-length c = ap length (given-is (c .before .before .before .before .before .before .args .regs .now) (c .before .before .before .before .before .before .args .r) (c .before .before .before .before .before .before .args .v) (toZ-ofZ (ok (c .before .before .before .before .slot-count .ok)) ∙ c .before .before .before .before .slot-count .ensures) (c .before .before .before .before .before .before .pre .0) (c .before .before .before .before .before .before .pre .1) (c .before .before .before .before .before .before .pre .3) (c .before .copy-front .ensures)) ∙ give-length (c .before .before .before .before .before .before .args .regs .now) (c .before .before .before .before .before .before .args .r) (c .before .before .before .before .before .before .args .v) (c .before .before .before .before .before .before .pre .0) (c .before .before .before .before .before .before .pre .1) (c .before .before .before .before .before .before .pre .3)
+same-length c =
+    let slot-count = c .before .before .before .before .slot-count in
+    let s = c .before .before .before .before .before .before in
+    ap length (given-is (s .args .regs .now) (s .args .r) (s .args .v) (toZ-ofZ (ok (slot-count .ok)) ∙ slot-count .ensures) (s .pre .0) (s .pre .1) (s .pre .3)
+    (c .before .copy-front .ensures)) ∙ give-length (s .args .regs .now) (s .args .r) (s .args .v) (s .pre .0) (s .pre .1) (s .pre .3)
 
 returns : tie.Need-returns
-returns c = given-is (c .before .before .before .before .before .before .args .regs .now) (c .before .before .before .before .before .before .args .r) (c .before .before .before .before .before .before .args .v) (toZ-ofZ (ok (c .before .before .before .before .slot-count .ok)) ∙ c .before .before .before .before .slot-count .ensures) (c .before .before .before .before .before .before .pre .0) (c .before .before .before .before .before .before .pre .1) (c .before .before .before .before .before .before .pre .3) (c .before .copy-front .ensures)
+returns c =
+    let slot-count = c .before .before .before .before .slot-count in
+    let s = c .before .before .before .before .before .before in
+    given-is (s .args .regs .now) (s .args .r) (s .args .v) (toZ-ofZ (ok (slot-count .ok)) ∙ slot-count .ensures) (s .pre .0) (s .pre .1) (s .pre .3) (c .before .copy-front .ensures)
 
 pub give-spec : {M : Type 1} → statement M
 give-spec = tie.close (tie.spec mul-k add-j slot-count-requires mul-t9 slice-set-from-regs mul-copy-front sub-copy-front part-copy-front-start part-copy-front-end slice-aggregate-copy-front copy-front-requires same-length returns)

@@ -18,13 +18,21 @@ same-length : tie.Need-same-length
 same-length c = search needs
 
 returns : tie.Need-returns
-returns c = c .stopped .ensures ∙ value-bad (c .before .before .before .before .before .before .before .before .args .regs .now) (c .before .before .before .before .before .before .before .before .args .text .now) (c .before .before .before .before .before .before .before .before .args .j) (c .before .before .before .before .set-arg .result) (c .before .before .before .before .before .before .tail .ensures) (c .before .before .before .before .set-arg .ensures) (c .before .if1 .taken)
+returns c =
+    let set-arg = c .before .before .before .before .set-arg in
+    let tail = c .before .before .before .before .before .before .tail in
+    let s = c .before .before .before .before .before .before .before .before in
+    c .stopped .ensures ∙ value-bad (s .args .regs .now) (s .args .text .now) (s .args .j) (set-arg .result) (tail .ensures) (set-arg .ensures) (c .before .if1 .taken)
 
 same-length-2 : tie.Need-same-length-2
 same-length-2 c = search needs
 
 returns-2 : tie.Need-returns-2
-returns-2 c = value-good (c .before .before .before .before .before .before .before .before .args .regs .now) (c .before .before .before .before .before .before .before .before .args .text .now) (c .before .before .before .before .before .before .before .before .args .j) (c .before .before .before .before .set-arg .result) (c .before .before .before .before .before .before .tail .ensures) (c .before .before .before .before .set-arg .ensures) (c .before .if1 .left)
+returns-2 c =
+    let set-arg = c .before .before .before .before .set-arg in
+    let tail = c .before .before .before .before .before .before .tail in
+    let s = c .before .before .before .before .before .before .before .before in
+    value-good (s .args .regs .now) (s .args .text .now) (s .args .j) (set-arg .result) (tail .ensures) (set-arg .ensures) (c .before .if1 .left)
 
 pub value-at-spec : {M : Type 1} → statement M
 value-at-spec = tie.close (tie.spec tail-requires set-arg-requires stopped-requires same-length returns same-length-2 returns-2)

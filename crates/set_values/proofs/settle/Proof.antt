@@ -10,13 +10,17 @@ stopped-requires : tie.Need-stopped-requires
 stopped-requires c κs = search needs
 
 returns : tie.Need-returns
-returns c = c .stopped .ensures ∙ settle-crowded (c .before .before .args .work .now) (c .before .before .args .count) (c .before .before .args .flag) (c .before .before .pre .0) (c .before .before .pre .1) (omega arith)
+returns c =
+    let s = c .before .before in
+    c .stopped .ensures ∙ settle-crowded (s .args .work .now) (s .args .count) (s .args .flag) (s .pre .0) (s .pre .1) (omega arith)
 
 stopped-requires-2 : tie.Need-stopped-requires-2
 stopped-requires-2 c κs = search needs
 
 returns-2 : tie.Need-returns-2
-returns-2 c = c .stopped2 .ensures ∙ settle-flagged (c .before .before .before .args .work .now) (c .before .before .before .args .count) (c .before .before .before .args .flag) (c .before .before .before .pre .0) (c .before .before .before .pre .1) (omega arith) (c .before .if2 .taken)
+returns-2 c =
+    let s = c .before .before .before in
+    c .stopped2 .ensures ∙ settle-flagged (s .args .work .now) (s .args .count) (s .args .flag) (s .pre .0) (s .pre .1) (omega arith) (c .before .if2 .taken)
 
 slice-aggregate-copy-front : tie.Need-slice-aggregate-copy-front
 slice-aggregate-copy-front c = search needs
@@ -25,7 +29,10 @@ copy-front-requires : tie.Need-copy-front-requires
 copy-front-requires c κs = search needs
 
 returns-3 : tie.Need-returns-3
-returns-3 c = settle-fine (c .before .before .before .before .before .args .work .now) (c .before .before .before .before .before .args .count) (c .before .before .before .before .before .args .flag) (c .before .before .before .before .before .pre .0) (c .before .before .before .before .before .pre .1) (omega arith) (c .before .before .before .if2 .left) (c .before .copy-front .ensures)
+returns-3 c =
+    let if2 = c .before .before .before .if2 in
+    let s = c .before .before .before .before .before in
+    settle-fine (s .args .work .now) (s .args .count) (s .args .flag) (s .pre .0) (s .pre .1) (omega arith) (if2 .left) (c .before .copy-front .ensures)
 
 pub settle-spec : {M : Type 1} → statement M
 settle-spec = tie.close (tie.spec stopped-requires returns stopped-requires-2 returns-2 slice-aggregate-copy-front copy-front-requires returns-3)

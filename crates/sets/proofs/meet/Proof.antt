@@ -44,7 +44,10 @@ same-length : tie.Need-same-length Inv-loop μ-loop
 same-length c = search needs
 
 returns : tie.Need-returns Inv-loop μ-loop
-returns c = crossing-end-r (c .before .before .loop .inv .2) (c .before .before .before .pre .1) (c .before .before .before .pre .2) (omega (arith, c .if1 .taken, c .before .before .loop .inv .1))
+returns c =
+    let m = c .before .before in
+    let s = c .before .before .before in
+    crossing-end-r (m .loop .inv .2) (s .pre .1) (s .pre .2) (omega (arith, c .if1 .taken, m .loop .inv .1))
 
 mul-s : tie.Need-mul-s Inv-loop μ-loop
 mul-s c = search needs
@@ -59,7 +62,10 @@ mul-e : tie.Need-mul-e Inv-loop μ-loop
 mul-e c = search needs
 
 shared-slice-copy-out-e : tie.Need-shared-slice-copy-out-e Inv-loop μ-loop
-shared-slice-copy-out-e c = omega (arith, cross-pair-l (c .before .before .before .loop .inv .2) (omega (arith, c .before .before .loop-test .taken, c .before .before .before .loop .inv .0)))
+shared-slice-copy-out-e c =
+    let loop-test = c .before .before .loop-test in
+    let s = c .before .before .before in
+    omega (arith, cross-pair-l (s .loop .inv .2) (omega (arith, loop-test .taken, s .loop .inv .0)))
 
 mul-c : tie.Need-mul-c Inv-loop μ-loop
 mul-c c = search needs
@@ -74,7 +80,10 @@ mul-d : tie.Need-mul-d Inv-loop μ-loop
 mul-d c = search needs
 
 shared-slice-copy-out-d : tie.Need-shared-slice-copy-out-d Inv-loop μ-loop
-shared-slice-copy-out-d c = omega (arith, cross-pair-r (c .before .before .before .before .before .loop .inv .2) (omega (arith, c .before .before .before .if1 .left, c .before .before .before .before .before .loop .inv .1)))
+shared-slice-copy-out-d c =
+    let if1 = c .before .before .before .if1 in
+    let s = c .before .before .before .before .before in
+    omega (arith, cross-pair-r (s .loop .inv .2) (omega (arith, if1 .left, s .loop .inv .1)))
 
 greater-requires : tie.Need-greater-requires Inv-loop μ-loop
 greater-requires c κs = search needs

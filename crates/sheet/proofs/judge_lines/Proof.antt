@@ -27,7 +27,10 @@ part-read-line-start : tie.Need-part-read-line-start Inv-loop μ-loop
 part-read-line-start c = omega (arith, c .line-end .ensures)
 
 part-read-line-end : tie.Need-part-read-line-end Inv-loop μ-loop
-part-read-line-end c = omega (arith, end-lt (c .before .before .before .before .args .text .now) (c .before .before .loop .at) (c .line-end .ensures) (c .before .loop-test .taken) (c .before .before .loop .inv .ended))
+part-read-line-end c =
+    let m = c .before .before in
+    let s = c .before .before .before .before in
+    omega (arith, end-lt (s .args .text .now) (m .loop .at) (c .line-end .ensures) (c .before .loop-test .taken) (m .loop .inv .ended))
 
 read-line-requires : tie.Need-read-line-requires Inv-loop μ-loop
 read-line-requires c κs = search needs
@@ -39,22 +42,50 @@ admit-requires : tie.Need-admit-requires Inv-loop μ-loop
 admit-requires c κs = register-there _ (c .before .read-line .result) (c .before .read-line .ensures)
 
 returns : tie.Need-returns Inv-loop μ-loop
-returns c = going-stop (c .before .before .before .before .before .before .before .before .before .args .text .now) (c .before .before .before .before .before .before .before .loop .taken) (c .before .before .before .before .before .before .before .loop .other) (c .before .before .before .before .before .before .before .loop .n) (c .before .before .before .before .before .before .before .loop .at) (c .before .before .before .before .before .before .before .loop .inv) (c .before .before .before .before .before .before .loop-test .taken) (c .before .before .before .before .before .line-end .ensures) (c .before .before .before .read-line .result) (c .before .before .before .read-line .ensures) (c .before .admit .ensures .0) (c .if1 .taken)
+returns c =
+    let read-line = c .before .before .before .read-line in
+    let line-end = c .before .before .before .before .before .line-end in
+    let loop-test = c .before .before .before .before .before .before .loop-test in
+    let m = c .before .before .before .before .before .before .before in
+    let s = c .before .before .before .before .before .before .before .before .before in
+    going-stop (s .args .text .now) (m .loop .taken) (m .loop .other) (m .loop .n) (m .loop .at) (m .loop .inv) (loop-test .taken) (line-end .ensures) (read-line .result)
+    (read-line .ensures) (c .before .admit .ensures .0) (c .if1 .taken)
 
 is-act-requires : tie.Need-is-act-requires Inv-loop μ-loop
 is-act-requires c κs = search needs
 
 add-at : tie.Need-add-at Inv-loop μ-loop
-add-at c = omega (arith, end-lt (c .before .before .before .before .before .before .before .before .before .before .args .text .now) (c .before .before .before .before .before .before .before .before .loop .at) (c .before .before .before .before .before .before .line-end .ensures) (c .before .before .before .before .before .before .before .loop-test .taken) (c .before .before .before .before .before .before .before .before .loop .inv .ended))
+add-at c =
+    let line-end = c .before .before .before .before .before .before .line-end in
+    let loop-test = c .before .before .before .before .before .before .before .loop-test in
+    let m = c .before .before .before .before .before .before .before .before in
+    let s = c .before .before .before .before .before .before .before .before .before .before in
+    omega (arith, end-lt (s .args .text .now) (m .loop .at) (line-end .ensures) (loop-test .taken) (m .loop .inv .ended))
 
 loop-less : tie.Need-loop-less Inv-loop μ-loop
-loop-less c = omega (arith, end-lt (c .before .before .before .before .before .before .before .before .before .before .args .text .now) (c .before .before .before .before .before .before .before .before .loop .at) (c .before .before .before .before .before .before .line-end .ensures) (c .before .before .before .before .before .before .before .loop-test .taken) (c .before .before .before .before .before .before .before .before .loop .inv .ended), c .before .before .before .before .before .before .line-end .ensures)
+loop-less c =
+    let line-end = c .before .before .before .before .before .before .line-end in
+    let loop-test = c .before .before .before .before .before .before .before .loop-test in
+    let m = c .before .before .before .before .before .before .before .before in
+    let s = c .before .before .before .before .before .before .before .before .before .before in
+    omega (arith, end-lt (s .args .text .now) (m .loop .at) (line-end .ensures) (loop-test .taken) (m .loop .inv .ended), line-end .ensures)
 
 loop-again : tie.Need-loop-again Inv-loop μ-loop
-loop-again c = going-next (c .before .before .before .before .before .before .before .before .before .before .args .text .now) (c .before .before .before .before .before .before .before .before .loop .taken) (c .before .before .before .before .before .before .before .before .loop .other) (c .before .before .before .before .before .before .before .before .loop .n) (c .before .before .before .before .before .before .before .before .loop .at) (c .before .before .before .before .before .before .before .before .loop .inv) (c .before .before .before .before .before .before .before .loop-test .taken) (c .before .before .before .before .before .before .line-end .ensures) (c .before .before .before .before .read-line .result) (c .before .before .before .before .read-line .ensures) (c .before .before .admit .ensures .0) (c .before .if1 .left) (c .before .before .admit .ensures .1) (c .is-act .ensures)
+loop-again c =
+    let admit = c .before .before .admit in
+    let read-line = c .before .before .before .before .read-line in
+    let line-end = c .before .before .before .before .before .before .line-end in
+    let loop-test = c .before .before .before .before .before .before .before .loop-test in
+    let m = c .before .before .before .before .before .before .before .before in
+    let s = c .before .before .before .before .before .before .before .before .before .before in
+    going-next (s .args .text .now) (m .loop .taken) (m .loop .other) (m .loop .n) (m .loop .at) (m .loop .inv) (loop-test .taken) (line-end .ensures) (read-line .result)
+    (read-line .ensures) (admit .ensures .0) (c .before .if1 .left) (admit .ensures .1) (c .is-act .ensures)
 
 returns-2 : tie.Need-returns-2 Inv-loop μ-loop
-returns-2 c = going-done (c .before .before .before .args .text .now) (c .before .loop .taken) (c .before .loop .other) (c .before .loop .n) (c .before .loop .at) (c .before .loop .inv) (omega arith)
+returns-2 c =
+    let m = c .before in
+    let s = c .before .before .before in
+    going-done (s .args .text .now) (m .loop .taken) (m .loop .other) (m .loop .n) (m .loop .at) (m .loop .inv) (omega arith)
 
 pub judge-lines-spec : {M : Type 1} → statement M
 judge-lines-spec =

@@ -22,7 +22,10 @@ line-end-requires : tie.Need-line-end-requires Inv-loop μ-loop
 line-end-requires c κs = search needs
 
 returns : tie.Need-returns Inv-loop μ-loop
-returns c = start-end (c .before .before .before .before .before .args .text .now) (c .before .before .before .loop .i) (c .before .before .before .loop .at) (c .before .before .before .loop .inv .0) (c .before .line-end .ensures) (c .before .before .before .before .before .args .k) (c .if1 .taken) (omega arith)
+returns c =
+    let m = c .before .before .before in
+    let s = c .before .before .before .before .before in
+    start-end (s .args .text .now) (m .loop .i) (m .loop .at) (m .loop .inv .0) (c .before .line-end .ensures) (s .args .k) (c .if1 .taken) (omega arith)
 
 add-at : tie.Need-add-at Inv-loop μ-loop
 add-at c = omega arith
@@ -34,7 +37,10 @@ loop-less : tie.Need-loop-less Inv-loop μ-loop
 loop-less c = omega arith
 
 loop-again : tie.Need-loop-again Inv-loop μ-loop
-loop-again c = (start-next (c .before .before .before .before .before .args .text .now) (c .before .before .before .loop .i) (c .before .before .before .loop .at) (c .before .before .before .loop .inv .0) (c .before .line-end .ensures) (c .if1 .left), omega arith)
+loop-again c =
+    let m = c .before .before .before in
+    let s = c .before .before .before .before .before in
+    (start-next (s .args .text .now) (m .loop .i) (m .loop .at) (m .loop .inv .0) (c .before .line-end .ensures) (c .if1 .left), omega arith)
 
 returns-2 : tie.Need-returns-2 Inv-loop μ-loop
 returns-2 c = let e : c .before .loop .i ≡ c .before .before .before .args .k = omega arith in rw (← e) (c .before .loop .inv .0)

@@ -21,7 +21,12 @@ line-end-requires : tie.Need-line-end-requires Inv-loop μ-loop
 line-end-requires c κs = search needs
 
 add-n : tie.Need-add-n Inv-loop μ-loop
-add-n c = let h = looping-counted (c .before .before .before .before .args .text .now) (c .before .before .before .before .args .count) (c .before .before .loop .regs) (c .before .before .loop .n) (c .before .before .loop .at) (c .before .before .loop .inv .3) in let i = c .before .loop-test .taken in omega (arith, c .before .before .before .before .good .0)
+add-n c =
+    let m = c .before .before in
+    let s = c .before .before .before .before in
+    let h = looping-counted (s .args .text .now) (s .args .count) (m .loop .regs) (m .loop .n) (m .loop .at) (m .loop .inv .3) in
+    let i = c .before .loop-test .taken in
+    omega (arith, s .good .0)
 
 sub-check-line : tie.Need-sub-check-line Inv-loop μ-loop
 sub-check-line c = omega (arith, c .line-end .ensures)
@@ -30,10 +35,20 @@ part-check-line-start : tie.Need-part-check-line-start Inv-loop μ-loop
 part-check-line-start c = omega (arith, c .line-end .ensures)
 
 part-check-line-end : tie.Need-part-check-line-end Inv-loop μ-loop
-part-check-line-end c = omega (arith, looping-end (c .before .before .before .before .args .text .now) (c .before .before .before .before .args .count) (c .before .before .loop .regs) (c .before .before .loop .n) (c .before .before .loop .at) (c .before .before .loop .inv .3) (c .before .loop-test .taken) (c .line-end .ensures))
+part-check-line-end c =
+    let m = c .before .before in
+    let s = c .before .before .before .before in
+    omega (
+      arith,
+      looping-end (s .args .text .now) (s .args .count) (m .loop .regs) (m .loop .n) (m .loop .at) (m .loop .inv .3) (c .before .loop-test .taken)
+          (c .line-end .ensures),
+    )
 
 check-line-requires : tie.Need-check-line-requires Inv-loop μ-loop
-check-line-requires c κs = (looping-shown (c .before .before .before .before .before .before .before .args .text .now) (c .before .before .before .before .before .before .before .args .count) (c .before .before .before .before .before .loop .regs) (c .before .before .before .before .before .loop .n) (c .before .before .before .before .before .loop .at) (c .before .before .before .before .before .loop .inv .3), c .before .before .before .before .before .loop .inv .0)
+check-line-requires c κs =
+    let m = c .before .before .before .before .before in
+    let s = c .before .before .before .before .before .before .before in
+    (looping-shown (s .args .text .now) (s .args .count) (m .loop .regs) (m .loop .n) (m .loop .at) (m .loop .inv .3), m .loop .inv .0)
 
 trouble-requires : tie.Need-trouble-requires Inv-loop μ-loop
 trouble-requires c κs = search needs
@@ -45,16 +60,54 @@ same-length-2 : tie.Need-same-length-2 Inv-loop μ-loop
 same-length-2 c = c .before .before .before .before .check-line .kept .1 .1 .0 ∙ c .before .before .before .before .before .before .before .before .before .before .loop .inv .1
 
 returns : tie.Need-returns Inv-loop μ-loop
-returns c = looping-stop (c .before .before .before .before .before .before .before .before .before .before .before .before .args .text .now) (c .before .before .before .before .before .before .before .before .before .before .before .before .args .count) (c .before .before .before .before .before .before .before .before .before .before .loop .regs) (c .before .before .before .before .before .before .before .before .before .before .loop .n) (c .before .before .before .before .before .before .before .before .before .before .loop .at) (c .before .before .before .before .before .before .before .before .before .before .loop .inv .3) (c .before .before .before .before .before .before .before .before .before .loop-test .taken) (c .before .before .before .before .before .before .before .before .line-end .ensures) (c .before .before .before .before .check-line .ensures) (c .before .if1 .taken) (c .trouble .ensures)
+returns c =
+    let check-line = c .before .before .before .before .check-line in
+    let line-end = c .before .before .before .before .before .before .before .before .line-end in
+    let loop-test = c .before .before .before .before .before .before .before .before .before .loop-test in
+    let m = c .before .before .before .before .before .before .before .before .before .before in
+    let s = c .before .before .before .before .before .before .before .before .before .before .before .before in
+    looping-stop (s .args .text .now) (s .args .count) (m .loop .regs) (m .loop .n) (m .loop .at) (m .loop .inv .3) (loop-test .taken) (line-end .ensures) (check-line .ensures)
+    (c .before .if1 .taken) (c .trouble .ensures)
 
 add-at : tie.Need-add-at Inv-loop μ-loop
-add-at c = omega (arith, looping-end (c .before .before .before .before .before .before .before .before .before .before .before .args .text .now) (c .before .before .before .before .before .before .before .before .before .before .before .args .count) (c .before .before .before .before .before .before .before .before .before .loop .regs) (c .before .before .before .before .before .before .before .before .before .loop .n) (c .before .before .before .before .before .before .before .before .before .loop .at) (c .before .before .before .before .before .before .before .before .before .loop .inv .3) (c .before .before .before .before .before .before .before .before .loop-test .taken) (c .before .before .before .before .before .before .before .line-end .ensures), c .before .before .before .before .before .before .before .before .before .before .before .good .0)
+add-at c =
+    let line-end = c .before .before .before .before .before .before .before .line-end in
+    let loop-test = c .before .before .before .before .before .before .before .before .loop-test in
+    let m = c .before .before .before .before .before .before .before .before .before in
+    let s = c .before .before .before .before .before .before .before .before .before .before .before in
+    omega (
+      arith,
+      looping-end (s .args .text .now) (s .args .count) (m .loop .regs) (m .loop .n) (m .loop .at) (m .loop .inv .3) (loop-test .taken) (line-end .ensures),
+      s .good .0,
+    )
 
 loop-less : tie.Need-loop-less Inv-loop μ-loop
-loop-less c = omega (arith, looping-end (c .before .before .before .before .before .before .before .before .before .before .before .args .text .now) (c .before .before .before .before .before .before .before .before .before .before .before .args .count) (c .before .before .before .before .before .before .before .before .before .loop .regs) (c .before .before .before .before .before .before .before .before .before .loop .n) (c .before .before .before .before .before .before .before .before .before .loop .at) (c .before .before .before .before .before .before .before .before .before .loop .inv .3) (c .before .before .before .before .before .before .before .before .loop-test .taken) (c .before .before .before .before .before .before .before .line-end .ensures), c .before .before .before .before .before .before .before .line-end .ensures)
+loop-less c =
+    let line-end = c .before .before .before .before .before .before .before .line-end in
+    let loop-test = c .before .before .before .before .before .before .before .before .loop-test in
+    let m = c .before .before .before .before .before .before .before .before .before in
+    let s = c .before .before .before .before .before .before .before .before .before .before .before in
+    omega (
+      arith,
+      looping-end (s .args .text .now) (s .args .count) (m .loop .regs) (m .loop .n) (m .loop .at) (m .loop .inv .3) (loop-test .taken) (line-end .ensures),
+      line-end .ensures,
+    )
 
 loop-again : tie.Need-loop-again Inv-loop μ-loop
-loop-again c = let w = c .before .before .before .check-line .kept .1 .1 .0 in let h = c .before .before .before .before .before .before .before .before .before .loop .inv .0 in (omega arith, w ∙ c .before .before .before .before .before .before .before .before .before .loop .inv .1, c .before .before .before .check-line .kept .1 .0 ∙ c .before .before .before .before .before .before .before .before .before .loop .inv .2, looping-next (c .before .before .before .before .before .before .before .before .before .before .before .args .text .now) (c .before .before .before .before .before .before .before .before .before .before .before .args .count) (c .before .before .before .before .before .before .before .before .before .loop .regs) (c .before .before .before .before .before .before .before .before .before .loop .n) (c .before .before .before .before .before .before .before .before .before .loop .at) (c .before .before .before .before .before .before .before .before .before .loop .inv .3) (c .before .before .before .before .before .before .before .before .loop-test .taken) (c .before .before .before .before .before .before .before .line-end .ensures) (c .before .before .before .check-line .ensures) (c .if1 .left))
+loop-again c =
+    let check-line = c .before .before .before .check-line in
+    let line-end = c .before .before .before .before .before .before .before .line-end in
+    let loop-test = c .before .before .before .before .before .before .before .before .loop-test in
+    let m = c .before .before .before .before .before .before .before .before .before in
+    let s = c .before .before .before .before .before .before .before .before .before .before .before in
+    let w = check-line .kept .1 .1 .0 in
+    let h = m .loop .inv .0 in (
+      omega arith,
+      w ∙ m .loop .inv .1,
+      check-line .kept .1 .0 ∙ m .loop .inv .2,
+      looping-next (s .args .text .now) (s .args .count) (m .loop .regs) (m .loop .n)
+          (m .loop .at) (m .loop .inv .3) (loop-test .taken) (line-end .ensures) (check-line .ensures) (c .if1 .left),
+    )
 
 same-length-3 : tie.Need-same-length-3 Inv-loop μ-loop
 same-length-3 c = c .before .loop .inv .2
@@ -63,7 +116,10 @@ same-length-4 : tie.Need-same-length-4 Inv-loop μ-loop
 same-length-4 c = c .before .loop .inv .1
 
 returns-2 : tie.Need-returns-2 Inv-loop μ-loop
-returns-2 c = looping-done (c .before .before .before .args .text .now) (c .before .before .before .args .count) (c .before .loop .regs) (c .before .loop .n) (c .before .loop .at) (c .before .loop .inv .3) (omega arith)
+returns-2 c =
+    let m = c .before in
+    let s = c .before .before .before in
+    looping-done (s .args .text .now) (s .args .count) (m .loop .regs) (m .loop .n) (m .loop .at) (m .loop .inv .3) (omega arith)
 
 pub check-lines-spec : {M : Type 1} → statement M
 check-lines-spec = tie.close (tie.spec Inv-loop μ-loop loop-holds line-end-requires add-n sub-check-line part-check-line-start part-check-line-end check-line-requires trouble-requires same-length same-length-2 returns add-at loop-less loop-again same-length-3 same-length-4 returns-2)
