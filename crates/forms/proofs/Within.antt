@@ -1,7 +1,7 @@
 -- What an argument takes lies within the text. Assumes nothing.
 use mathlib.Core.Path.{_≡_, sym, subst, _∙_}
 use mathlib.Core.List.{List}
-use Prim.Native.Nat.{ℕ, zero, suc, _+_, _-_, _≤_}
+use Prim.Native.Nat.{ℕ, zero, suc, _+_, _-_, _*_, _≤_, _<_}
 use Prim.Native.Char.{code}
 use native.Mathlib.Omega.{arith}
 use lib.Dec.{eqb}
@@ -9,7 +9,7 @@ use lib.ListN.{length, getD, drop}
 use borrow.Author.Tests.{eqb-true}
 use Rattle.meaning.specs.Reading.{Got, got, bad, mapGot, andThen, closed, literal, register, Head, isReg, is1, is2, isNone, head, start, Algebra, onHead, formWith, argWith, arg}
 use Rattle.laws.proofs.Integers.{cond-case}
-use Rattle.literals.proofs.Within.{byte-lt, Within, literal-within, part-le}
+use Rattle.literals.proofs.Within.{byte-lt, Within, literal-within, part-le, register-part}
 
 pub start-le : (s : List ℕ) → start s ≤ 5
 unfolding start
@@ -54,3 +54,18 @@ module _ {A : Type 0} (alg : Algebra A) where
   -- in the terms of a caller that hands on the part from k on
   pub part-within : (s : List ℕ) (d k : ℕ) {t : List ℕ} {n : ℕ} {a : A} {q : Got A} → t ≡ drop k s → q ≡ arg alg d t → q ≡ got a n → n ≤ length s - k
   part-within s d k {t} {n} {a} {q} et ea eo = part-le s k et (subst (Within (length t)) (sym ea ∙ eo) (arg-within d t))
+
+-- ---- room in a word for where a part of a form ends: a slice has under 2^63 bytes, and a form's word takes at most 5
+
+module _ (s : List ℕ) (g : length s * 1 < 9223372036854775808) {k : ℕ} (ek : k ≡ start s) where
+  pub register-room : {t : List ℕ} {r n : ℕ} → t ≡ drop k s → register t ≡ got r n → k + n ≤ 9223372036854775812
+  register-room et e = omega (arith, start-le s, register-part s k et e)
+
+  pub first-room : {A : Type 0} (alg : Algebra A) (d : ℕ) {t : List ℕ} {n : ℕ} {a : A} {q : Got A} → t ≡ drop k s → q ≡ arg alg d t → q ≡ got a n → k + n ≤ 9223372036854775812
+  first-room alg d et ea eo = omega (arith, start-le s, part-within alg s d k et ea eo)
+
+-- the space before the second argument lies in the text
+module _ (s : List ℕ) (g : length s * 1 < 9223372036854775808) (j : ℕ) (h : 0 < getD s j 0) where
+  pub second-room : {A : Type 0} (alg : Algebra A) (d : ℕ) {t : List ℕ} {n : ℕ} {a : A} {q : Got A} → t ≡ drop (j + 1) s → q ≡ arg alg d t → q ≡ got a n
+      → j + 1 + n ≤ 9223372036854775807
+  second-room alg d et ea eo = omega (arith, byte-lt s j h, part-within alg s d (j + 1) et ea eo)

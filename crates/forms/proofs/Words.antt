@@ -2,7 +2,7 @@
 use mathlib.Core.Path.{_≡_, refl, sym, ap, _∙_}
 use mathlib.Core.Bool.{Bool, true, false, _&&_, and-false}
 use mathlib.Core.List.{List, [], _∷_}
-use Prim.Native.Nat.{ℕ, zero, suc, _<_}
+use Prim.Native.Nat.{ℕ, zero, suc, _<_, _+_, _*_}
 use Prim.Native.Char.{code}
 use native.Mathlib.Omega.{arith}
 use lib.Dec.{T, eqb, ltb}
@@ -12,7 +12,14 @@ use borrow.Author.Tests.{eq-eqb, ne-eqb, eqb-true, lt-ltb, ltb-true, ltb-false}
 use Rattle.meaning.specs.Bytes.{bytes}
 use Rattle.meaning.specs.Reading.{begins, Head, isNone, head}
 use Rattle.laws.proofs.Integers.{by-test, and-yes, and-both, same-test}
-use Rattle.forms.specs.Packed.{packed, word2, word3, short, long}
+use Rattle.forms.specs.Packed.{packed, short, long}
+
+-- the letters packed as the code does it
+abbrev word2 : ℕ → ℕ → ℕ
+word2 a b = a + 256 * b
+
+abbrev word3 : ℕ → ℕ → ℕ → ℕ
+word3 a b c = a + 256 * b + 65536 * c
 
 -- no byte of the word is 0, which stands past the end of a text
 abbrev letters : List ℕ → Bool

@@ -12,12 +12,6 @@ abbrev pub packed : List ℕ → ℕ
 packed [] = 0
 packed (b ∷ w) = b + 256 * packed w
 
-abbrev pub word2 : ℕ → ℕ → ℕ
-word2 a b = a + 256 * b
-
-abbrev pub word3 : ℕ → ℕ → ℕ → ℕ
-word3 a b c = a + 256 * b + 65536 * c
-
 -- the words of two letters
 unfoldable pub short : ℕ → Head
 short w =

@@ -89,3 +89,8 @@ module _ (s : List ℕ) (k : ℕ) {t : List ℕ} {n : ℕ} (et : t ≡ drop k s)
 
   pub literal-part : {z : ℤ} → literal t ≡ got z n → n ≤ length s - k
   literal-part e = part-le (subst (Within (length t)) e (literal-within t))
+
+-- the byte at j lies in the text, and a literal is read behind it: where it ends is in a word, since a slice has under 2^63 bytes
+pub second-room : (s : List ℕ) → length s * 1 < 9223372036854775808 → (j : ℕ) → 0 < getD s j 0 → {t : List ℕ} {n : ℕ} {z : ℤ} → t ≡ drop (j + 1) s → literal t ≡ got z n
+    → j + 1 + n ≤ 9223372036854775807
+second-room s g j h et e = omega (arith, byte-lt s j h, literal-part s (j + 1) et e)

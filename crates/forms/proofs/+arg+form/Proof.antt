@@ -4,9 +4,9 @@ use Prim.Native.Nat.{_+_, ℕ, _<_}
 use mathlib.Core.Bool.{Bool}
 use Rattle.meaning.specs.Reading.{closed}
 use Rattle.literals.specs.Answer.{registerOf}
-use Rattle.literals.proofs.Within.{byte-lt, rest-is, register-part}
+use Rattle.literals.proofs.Within.{byte-lt, rest-is}
 use Rattle.forms.specs.Answer.{sizes, gotOf, headOf}
-use Rattle.forms.proofs.Within.{start-le, part-within}
+use Rattle.forms.proofs.Within.{register-room, first-room, second-room}
 use Rattle.forms.proofs.Forms.{arg-none, arg-form, size-literal, size-bad, form-none, form-register, form-no-register, form-one, form-one-bad, form-two-bad, form-no-space, form-two, form-second-bad}
 use borrow.Author.Needs.{needs}
 use native.Mathlib.Omega.{arith}
@@ -73,32 +73,26 @@ arg-enum-told t c = search needs
 
 arg-returns : (t : ℕ) → arg-lts.Need-returns (arg-in t) (arg-at t) arg.Post
 arg-returns t c =
-    let at = c .before .before .at in
     let s = c .before .before .before .before in
-    sym (arg-none sizes (s .args .text .now) (s .args .depth) (at .ensures) (c .before .if1 .taken) (c .if2 .taken))
+    sym (arg-none sizes (s .args .text .now) (s .args .depth) (c .before .before .at .ensures) (c .before .if1 .taken) (c .if2 .taken))
 
 arg-returns-2 : (t : ℕ) → arg-lts.Need-returns-2 (arg-in t) (arg-at t) arg.Post
 arg-returns-2 t c =
-    let if1 = c .before .before .if1 in
-    let at = c .before .before .before .at in
     let s = c .before .before .before .before .before in
-    c .form .ensures ∙ sym (arg-form sizes (s .args .text .now) (s .args .depth) (at .ensures) (if1 .taken) (c .before .if2 .left))
+    c .form .ensures ∙ sym (arg-form sizes (s .args .text .now) (s .args .depth) (c .before .before .before .at .ensures) (c .before .before .if1 .taken)
+    (c .before .if2 .left))
 
 arg-returns-3 : (t : ℕ) → arg-lts.Need-returns-3 (arg-in t) (arg-at t) arg.Post
 arg-returns-3 t c =
-    let read-literal = c .before .before .before .read-literal in
-    let if1 = c .before .before .before .before .if1 in
-    let at = c .before .before .before .before .before .at in
     let s = c .before .before .before .before .before .before .before in
-    size-literal (s .args .text .now) (s .args .depth) (at .ensures) (if1 .left) (read-literal .ensures) (c .before .far .given .1)
+    size-literal (s .args .text .now) (s .args .depth) (c .before .before .before .before .before .at .ensures) (c .before .before .before .before .if1 .left) (c .before .before .before .read-literal .ensures)
+    (c .before .far .given .1)
 
 arg-returns-4 : (t : ℕ) → arg-lts.Need-returns-4 (arg-in t) (arg-at t) arg.Post
 arg-returns-4 t c =
-    let read-literal = c .before .before .read-literal in
-    let if1 = c .before .before .before .if1 in
-    let at = c .before .before .before .before .at in
     let s = c .before .before .before .before .before .before in
-    size-bad (s .args .text .now) (s .args .depth) (at .ensures) (if1 .left) (read-literal .ensures) (c .enum-told .given .1)
+    size-bad (s .args .text .now) (s .args .depth) (c .before .before .before .before .at .ensures) (c .before .before .before .if1 .left) (c .before .before .read-literal .ensures)
+    (c .enum-told .given .1)
 
 form-start-requires : (t : ℕ) → form-lts.Need-start-requires (form-in t) (form-at t) form.Post
 form-start-requires t c κs = search needs
@@ -120,32 +114,22 @@ form-enum-known-n t c = search needs
 
 form-add-closed : (t : ℕ) → form-lts.Need-add-closed (form-in t) (form-at t) form.Post
 form-add-closed t c =
-    let read-register = c .before .before .before .read-register in
-    let tail = c .before .before .before .before .tail in
     let start = c .before .before .before .before .before .before .before .before .start in
     let s = c .before .before .before .before .before .before .before .before .before .before in
     omega (
       arith,
-      start-le (s .args .text .now),
-      start .ensures,
-      s .good,
-      register-part (s .args .text .now) (start .result) (tail .ensures)
-          (sym (read-register .ensures) ∙ ap registerOf (c .before .n .given .1)),
+      register-room (s .args .text .now) (s .good .0 .1) (start .ensures) (c .before .before .before .before .tail .ensures)
+          (sym (c .before .before .before .read-register .ensures) ∙ ap registerOf (c .before .n .given .1)),
     )
 
 form-closed-requires : (t : ℕ) → form-lts.Need-closed-requires (form-in t) (form-at t) form.Post
 form-closed-requires t c κs =
-    let read-register = c .before .before .before .read-register in
-    let tail = c .before .before .before .before .tail in
     let start = c .before .before .before .before .before .before .before .before .start in
     let s = c .before .before .before .before .before .before .before .before .before .before in
     omega (
       arith,
-      start-le (s .args .text .now),
-      start .ensures,
-      s .good,
-      register-part (s .args .text .now) (start .result) (tail .ensures)
-          (sym (read-register .ensures) ∙ ap registerOf (c .before .n .given .1)),
+      register-room (s .args .text .now) (s .good .0 .1) (start .ensures) (c .before .before .before .before .tail .ensures)
+          (sym (c .before .before .before .read-register .ensures) ∙ ap registerOf (c .before .n .given .1)),
     )
 
 form-enum-told-2 : (t : ℕ) → form-lts.Need-enum-told-2 (form-in t) (form-at t) form.Post
@@ -165,32 +149,22 @@ form-enum-known-n-2 t c = search needs
 
 form-add-closed-2 : (t : ℕ) → form-lts.Need-add-closed-2 (form-in t) (form-at t) form.Post
 form-add-closed-2 t c =
-    let arg = c .before .before .before .arg in
-    let tail2 = c .before .before .before .before .tail2 in
     let start = c .before .before .before .before .before .before .before .before .start in
     let s = c .before .before .before .before .before .before .before .before .before .before in
     omega (
       arith,
-      start-le (s .args .text .now),
-      start .ensures,
-      s .good,
-      part-within sizes (s .args .text .now) (s .args .depth) (start .result) (tail2 .ensures)
-          (arg .ensures) (ap gotOf (c .before .n2 .given .1)),
+      first-room (s .args .text .now) (s .good .0 .1) (start .ensures) sizes (s .args .depth) (c .before .before .before .before .tail2 .ensures)
+          (c .before .before .before .arg .ensures) (ap gotOf (c .before .n2 .given .1)),
     )
 
 form-closed-requires-2 : (t : ℕ) → form-lts.Need-closed-requires-2 (form-in t) (form-at t) form.Post
 form-closed-requires-2 t c κs =
-    let arg = c .before .before .before .arg in
-    let tail2 = c .before .before .before .before .tail2 in
     let start = c .before .before .before .before .before .before .before .before .start in
     let s = c .before .before .before .before .before .before .before .before .before .before in
     omega (
       arith,
-      start-le (s .args .text .now),
-      start .ensures,
-      s .good,
-      part-within sizes (s .args .text .now) (s .args .depth) (start .result) (tail2 .ensures)
-          (arg .ensures) (ap gotOf (c .before .n2 .given .1)),
+      first-room (s .args .text .now) (s .good .0 .1) (start .ensures) sizes (s .args .depth) (c .before .before .before .before .tail2 .ensures)
+          (c .before .before .before .arg .ensures) (ap gotOf (c .before .n2 .given .1)),
     )
 
 form-enum-told-4 : (t : ℕ) → form-lts.Need-enum-told-4 (form-in t) (form-at t) form.Post
@@ -210,17 +184,12 @@ form-enum-known-n-3 t c = search needs
 
 form-add-at : (t : ℕ) → form-lts.Need-add-at (form-in t) (form-at t) form.Post
 form-add-at t c =
-    let arg2 = c .before .before .before .arg2 in
-    let tail3 = c .before .before .before .before .tail3 in
     let start = c .before .before .before .before .before .before .before .before .start in
     let s = c .before .before .before .before .before .before .before .before .before .before in
     omega (
       arith,
-      start-le (s .args .text .now),
-      start .ensures,
-      s .good,
-      part-within sizes (s .args .text .now) (s .args .depth) (start .result) (tail3 .ensures)
-          (arg2 .ensures) (ap gotOf (c .before .n3 .given .1)),
+      first-room (s .args .text .now) (s .good .0 .1) (start .ensures) sizes (s .args .depth) (c .before .before .before .before .tail3 .ensures)
+          (c .before .before .before .arg2 .ensures) (ap gotOf (c .before .n3 .given .1)),
     )
 
 form-at-requires : (t : ℕ) → form-lts.Need-at-requires (form-in t) (form-at t) form.Post
@@ -228,68 +197,48 @@ form-at-requires t c κs = search needs
 
 form-returns : (t : ℕ) → form-lts.Need-returns (form-in t) (form-at t) form.Post
 form-returns t c =
-    let n3 = c .before .before .before .n3 in
-    let arg2 = c .before .before .before .before .before .arg2 in
     let tail3 = c .before .before .before .before .before .before .tail3 in
     let enum-told5 = c .before .before .before .before .before .before .before .enum-told5 in
     let read-head = c .before .before .before .before .before .before .before .before .before .read-head in
     let start = c .before .before .before .before .before .before .before .before .before .before .start in
     let s = c .before .before .before .before .before .before .before .before .before .before .before .before in
-    sym (form-no-space sizes (s .args .text .now) (s .args .depth) (start .ensures) (read-head .ensures) (tail3 .ensures) (arg2 .ensures)
-    (ap headOf (enum-told5 .given .1)) (ap gotOf (n3 .given .1)) (c .before .at .ensures) (c .if1 .taken))
+    sym (form-no-space sizes (s .args .text .now) (s .args .depth) (start .ensures) (read-head .ensures) (tail3 .ensures)
+    (c .before .before .before .before .before .arg2 .ensures) (ap headOf (enum-told5 .given .1)) (ap gotOf (c .before .before .before .n3 .given .1))
+    (c .before .at .ensures) (c .if1 .taken))
 
 form-add-j : (t : ℕ) → form-lts.Need-add-j (form-in t) (form-at t) form.Post
 form-add-j t c =
-    let n3 = c .before .before .before .n3 in
-    let arg2 = c .before .before .before .before .before .arg2 in
     let tail3 = c .before .before .before .before .before .before .tail3 in
     let start = c .before .before .before .before .before .before .before .before .before .before .start in
     let s = c .before .before .before .before .before .before .before .before .before .before .before .before in
     omega (
       arith,
-      start-le (s .args .text .now),
-      start .ensures,
-      s .good,
-      part-within sizes (s .args .text .now) (s .args .depth) (start .result) (tail3 .ensures)
-          (arg2 .ensures) (ap gotOf (n3 .given .1)),
+      first-room (s .args .text .now) (s .good .0 .1) (start .ensures) sizes (s .args .depth) (tail3 .ensures)
+          (c .before .before .before .before .before .arg2 .ensures) (ap gotOf (c .before .before .before .n3 .given .1)),
     )
 
 form-add-j-2 : (t : ℕ) → form-lts.Need-add-j-2 (form-in t) (form-at t) form.Post
 form-add-j-2 t c =
-    let n3 = c .before .before .before .n3 in
-    let arg2 = c .before .before .before .before .before .arg2 in
     let tail3 = c .before .before .before .before .before .before .tail3 in
     let start = c .before .before .before .before .before .before .before .before .before .before .start in
     let s = c .before .before .before .before .before .before .before .before .before .before .before .before in
     omega (
       arith,
-      start-le (s .args .text .now),
-      start .ensures,
-      s .good,
-      part-within sizes (s .args .text .now) (s .args .depth) (start .result) (tail3 .ensures)
-          (arg2 .ensures) (ap gotOf (n3 .given .1)),
+      first-room (s .args .text .now) (s .good .0 .1) (start .ensures) sizes (s .args .depth) (tail3 .ensures)
+          (c .before .before .before .before .before .arg2 .ensures) (ap gotOf (c .before .before .before .n3 .given .1)),
     )
 
 form-sub-arg : (t : ℕ) → form-lts.Need-sub-arg (form-in t) (form-at t) form.Post
 form-sub-arg t c =
-    let n3 = c .before .before .before .n3 in
     let start = c .before .before .before .before .before .before .before .before .before .before .start in
     let s = c .before .before .before .before .before .before .before .before .before .before .before .before in
-    omega (arith, byte-lt (s .args .text .now) (start .result + n3 .given .0 .0) (omega (arith, c .before .at .ensures, c .if1 .left)))
+    omega (arith, byte-lt (s .args .text .now) (start .result + c .before .before .before .n3 .given .0 .0) (omega (arith, c .before .at .ensures, c .if1 .left)))
 
 form-part-arg-start : (t : ℕ) → form-lts.Need-part-arg-start (form-in t) (form-at t) form.Post
-form-part-arg-start t c =
-    let n3 = c .before .before .before .n3 in
-    let start = c .before .before .before .before .before .before .before .before .before .before .start in
-    let s = c .before .before .before .before .before .before .before .before .before .before .before .before in
-    omega (arith, byte-lt (s .args .text .now) (start .result + n3 .given .0 .0) (omega (arith, c .before .at .ensures, c .if1 .left)))
+form-part-arg-start t c = omega (arith, form-sub-arg t c)
 
 form-part-arg-end : (t : ℕ) → form-lts.Need-part-arg-end (form-in t) (form-at t) form.Post
-form-part-arg-end t c =
-    let n3 = c .before .before .before .n3 in
-    let start = c .before .before .before .before .before .before .before .before .before .before .start in
-    let s = c .before .before .before .before .before .before .before .before .before .before .before .before in
-    omega (arith, byte-lt (s .args .text .now) (start .result + n3 .given .0 .0) (omega (arith, c .before .at .ensures, c .if1 .left)))
+form-part-arg-end t c = omega (arith, form-sub-arg t c)
 
 form-arg-requires-3 : (t : ℕ) → form-lts.Need-arg-requires-3 (form-in t) (form-at t) form.Post
 form-arg-requires-3 t c κs = search needs
@@ -299,19 +248,15 @@ form-enum-known-m t c = search needs
 
 form-add-closed-3 : (t : ℕ) → form-lts.Need-add-closed-3 (form-in t) (form-at t) form.Post
 form-add-closed-3 t c =
-    let arg3 = c .before .before .before .arg3 in
-    let if1 = c .before .before .before .before .before .if1 in
     let at = c .before .before .before .before .before .before .at in
     let n3 = c .before .before .before .before .before .before .before .before .n3 in
     let start = c .before .before .before .before .before .before .before .before .before .before .before .before .before .before .before .start in
     let s = c .before .before .before .before .before .before .before .before .before .before .before .before .before .before .before .before .before in
     omega (
       arith,
-      s .good,
-      byte-lt (s .args .text .now) (start .result + n3 .given .0 .0) (omega (arith, at .ensures, if1 .left)),
-      part-within sizes (s .args .text .now)
-          (s .args .depth) (start .result + n3 .given .0 .0 + 1) (rest-is (s .args .text .now) (start .result + n3 .given .0 .0 + 1)) (arg3 .ensures)
-          (ap gotOf (c .before .m .given .1)),
+      second-room (s .args .text .now) (s .good .0 .1) (start .result + n3 .given .0 .0)
+          (omega (arith, at .ensures, c .before .before .before .before .before .if1 .left)) sizes (s .args .depth)
+          (rest-is (s .args .text .now) (start .result + n3 .given .0 .0 + 1)) (c .before .before .before .arg3 .ensures) (ap gotOf (c .before .m .given .1)),
     )
 
 form-either-requires : (t : ℕ) → form-lts.Need-either-requires (form-in t) (form-at t) form.Post
@@ -319,8 +264,6 @@ form-either-requires t c κs = search needs
 
 form-closed-requires-3 : (t : ℕ) → form-lts.Need-closed-requires-3 (form-in t) (form-at t) form.Post
 form-closed-requires-3 t c κs =
-    let m = c .before .before .m in
-    let arg3 = c .before .before .before .before .arg3 in
     let if1 = c .before .before .before .before .before .before .if1 in
     let at = c .before .before .before .before .before .before .before .at in
     let n3 = c .before .before .before .before .before .before .before .before .before .n3 in
@@ -328,10 +271,9 @@ form-closed-requires-3 t c κs =
     let s = c .before .before .before .before .before .before .before .before .before .before .before .before .before .before .before .before .before .before in
     omega (
       arith,
-      s .good,
-      byte-lt (s .args .text .now) (start .result + n3 .given .0 .0) (omega (arith, at .ensures, if1 .left)),
-      part-within sizes (s .args .text .now)
-          (s .args .depth) (start .result + n3 .given .0 .0 + 1) (rest-is (s .args .text .now) (start .result + n3 .given .0 .0 + 1)) (arg3 .ensures) (ap gotOf (m .given .1)),
+      second-room (s .args .text .now) (s .good .0 .1) (start .result + n3 .given .0 .0) (omega (arith, at .ensures, if1 .left)) sizes
+          (s .args .depth) (rest-is (s .args .text .now) (start .result + n3 .given .0 .0 + 1)) (c .before .before .before .before .arg3 .ensures)
+          (ap gotOf (c .before .before .m .given .1)),
     )
 
 form-enum-told-6 : (t : ℕ) → form-lts.Need-enum-told-6 (form-in t) (form-at t) form.Post
@@ -345,54 +287,43 @@ form-enum-told-8 t c = search needs
 
 form-returns-2 : (t : ℕ) → form-lts.Need-returns-2 (form-in t) (form-at t) form.Post
 form-returns-2 t c =
-    let n = c .before .before .n in
-    let read-register = c .before .before .before .before .read-register in
-    let tail = c .before .before .before .before .before .tail in
     let enum-told = c .before .before .before .before .before .before .enum-told in
     let read-head = c .before .before .before .before .before .before .before .before .read-head in
     let start = c .before .before .before .before .before .before .before .before .before .start in
     let s = c .before .before .before .before .before .before .before .before .before .before .before in
-    c .closed .ensures ∙ sym (form-register sizes (s .args .text .now) (s .args .depth) (start .ensures) (read-head .ensures) (tail .ensures) (read-register .ensures)
-    (ap headOf (enum-told .given .1)) (ap registerOf (n .given .1)))
+    c .closed .ensures ∙ sym (form-register sizes (s .args .text .now) (s .args .depth) (start .ensures) (read-head .ensures)
+    (c .before .before .before .before .before .tail .ensures) (c .before .before .before .before .read-register .ensures) (ap headOf (enum-told .given .1))
+    (ap registerOf (c .before .before .n .given .1)))
 
 form-returns-3 : (t : ℕ) → form-lts.Need-returns-3 (form-in t) (form-at t) form.Post
 form-returns-3 t c =
-    let read-register = c .before .before .read-register in
-    let tail = c .before .before .before .tail in
-    let enum-told = c .before .before .before .before .enum-told in
     let read-head = c .before .before .before .before .before .before .read-head in
     let start = c .before .before .before .before .before .before .before .start in
     let s = c .before .before .before .before .before .before .before .before .before in
-    sym (form-no-register sizes (s .args .text .now) (s .args .depth) (start .ensures) (read-head .ensures) (tail .ensures) (read-register .ensures)
-    (ap headOf (enum-told .given .1)) (ap registerOf (c .enum-told2 .given .1)))
+    sym (form-no-register sizes (s .args .text .now) (s .args .depth) (start .ensures) (read-head .ensures) (c .before .before .before .tail .ensures)
+    (c .before .before .read-register .ensures) (ap headOf (c .before .before .before .before .enum-told .given .1)) (ap registerOf (c .enum-told2 .given .1)))
 
 form-returns-4 : (t : ℕ) → form-lts.Need-returns-4 (form-in t) (form-at t) form.Post
 form-returns-4 t c =
-    let n2 = c .before .before .n2 in
-    let arg = c .before .before .before .before .arg in
-    let tail2 = c .before .before .before .before .before .tail2 in
     let enum-told3 = c .before .before .before .before .before .before .enum-told3 in
     let read-head = c .before .before .before .before .before .before .before .before .read-head in
     let start = c .before .before .before .before .before .before .before .before .before .start in
     let s = c .before .before .before .before .before .before .before .before .before .before .before in
-    c .closed2 .ensures ∙ sym (form-one sizes (s .args .text .now) (s .args .depth) (start .ensures) (read-head .ensures) (tail2 .ensures) (arg .ensures)
-    (ap headOf (enum-told3 .given .1)) (ap gotOf (n2 .given .1)))
+    c .closed2 .ensures ∙ sym (form-one sizes (s .args .text .now) (s .args .depth) (start .ensures) (read-head .ensures)
+    (c .before .before .before .before .before .tail2 .ensures) (c .before .before .before .before .arg .ensures) (ap headOf (enum-told3 .given .1))
+    (ap gotOf (c .before .before .n2 .given .1)))
 
 form-returns-5 : (t : ℕ) → form-lts.Need-returns-5 (form-in t) (form-at t) form.Post
 form-returns-5 t c =
-    let arg = c .before .before .arg in
-    let tail2 = c .before .before .before .tail2 in
-    let enum-told3 = c .before .before .before .before .enum-told3 in
     let read-head = c .before .before .before .before .before .before .read-head in
     let start = c .before .before .before .before .before .before .before .start in
     let s = c .before .before .before .before .before .before .before .before .before in
-    sym (form-one-bad sizes (s .args .text .now) (s .args .depth) (start .ensures) (read-head .ensures) (tail2 .ensures) (arg .ensures)
-    (ap headOf (enum-told3 .given .1)) (ap gotOf (c .enum-told4 .given .1)))
+    sym (form-one-bad sizes (s .args .text .now) (s .args .depth) (start .ensures) (read-head .ensures) (c .before .before .before .tail2 .ensures)
+    (c .before .before .arg .ensures) (ap headOf (c .before .before .before .before .enum-told3 .given .1)) (ap gotOf (c .enum-told4 .given .1)))
 
 form-returns-6 : (t : ℕ) → form-lts.Need-returns-6 (form-in t) (form-at t) form.Post
 form-returns-6 t c =
     let m = c .before .before .before .m in
-    let arg3 = c .before .before .before .before .before .arg3 in
     let if1 = c .before .before .before .before .before .before .before .if1 in
     let at = c .before .before .before .before .before .before .before .before .at in
     let n3 = c .before .before .before .before .before .before .before .before .before .before .n3 in
@@ -404,13 +335,11 @@ form-returns-6 t c =
     let s = c .before .before .before .before .before .before .before .before .before .before .before .before .before .before .before .before .before .before .before in
     c .closed3 .ensures ∙ ap (λ (b : Bool). closed (s .args .text .now) (start .result + n3 .given .0 .0 + 1 + m .given .0 .0) b) (c .before .either .ensures) ∙ sym
     (form-two sizes (s .args .text .now) (s .args .depth) (start .ensures) (read-head .ensures) (tail3 .ensures) (arg2 .ensures) (ap headOf (enum-told5 .given .1))
-    (ap gotOf (n3 .given .1)) (at .ensures) (if1 .left) (rest-is (s .args .text .now) (start .result + n3 .given .0 .0 + 1)) (arg3 .ensures) (ap gotOf (m .given .1)))
+    (ap gotOf (n3 .given .1)) (at .ensures) (if1 .left) (rest-is (s .args .text .now) (start .result + n3 .given .0 .0 + 1))
+    (c .before .before .before .before .before .arg3 .ensures) (ap gotOf (m .given .1)))
 
 form-returns-7 : (t : ℕ) → form-lts.Need-returns-7 (form-in t) (form-at t) form.Post
 form-returns-7 t c =
-    let arg3 = c .before .before .arg3 in
-    let if1 = c .before .before .before .before .if1 in
-    let at = c .before .before .before .before .before .at in
     let n3 = c .before .before .before .before .before .before .before .n3 in
     let arg2 = c .before .before .before .before .before .before .before .before .before .arg2 in
     let tail3 = c .before .before .before .before .before .before .before .before .before .before .tail3 in
@@ -419,26 +348,22 @@ form-returns-7 t c =
     let start = c .before .before .before .before .before .before .before .before .before .before .before .before .before .before .start in
     let s = c .before .before .before .before .before .before .before .before .before .before .before .before .before .before .before .before in
     sym (form-second-bad sizes (s .args .text .now) (s .args .depth) (start .ensures) (read-head .ensures) (tail3 .ensures) (arg2 .ensures)
-    (ap headOf (enum-told5 .given .1)) (ap gotOf (n3 .given .1)) (at .ensures) (if1 .left) (rest-is (s .args .text .now) (start .result + n3 .given .0 .0 + 1))
-    (arg3 .ensures) (ap gotOf (c .enum-told6 .given .1)))
+    (ap headOf (enum-told5 .given .1)) (ap gotOf (n3 .given .1)) (c .before .before .before .before .before .at .ensures) (c .before .before .before .before .if1 .left)
+    (rest-is (s .args .text .now) (start .result + n3 .given .0 .0 + 1)) (c .before .before .arg3 .ensures) (ap gotOf (c .enum-told6 .given .1)))
 
 form-returns-8 : (t : ℕ) → form-lts.Need-returns-8 (form-in t) (form-at t) form.Post
 form-returns-8 t c =
-    let arg2 = c .before .before .arg2 in
-    let tail3 = c .before .before .before .tail3 in
-    let enum-told5 = c .before .before .before .before .enum-told5 in
     let read-head = c .before .before .before .before .before .before .read-head in
     let start = c .before .before .before .before .before .before .before .start in
     let s = c .before .before .before .before .before .before .before .before .before in
-    sym (form-two-bad sizes (s .args .text .now) (s .args .depth) (start .ensures) (read-head .ensures) (tail3 .ensures) (arg2 .ensures)
-    (ap headOf (enum-told5 .given .1)) (ap gotOf (c .enum-told7 .given .1)))
+    sym (form-two-bad sizes (s .args .text .now) (s .args .depth) (start .ensures) (read-head .ensures) (c .before .before .before .tail3 .ensures)
+    (c .before .before .arg2 .ensures) (ap headOf (c .before .before .before .before .enum-told5 .given .1)) (ap gotOf (c .enum-told7 .given .1)))
 
 form-returns-9 : (t : ℕ) → form-lts.Need-returns-9 (form-in t) (form-at t) form.Post
 form-returns-9 t c =
-    let read-head = c .before .before .read-head in
-    let start = c .before .before .before .start in
     let s = c .before .before .before .before .before in
-    sym (form-none sizes (s .args .text .now) (s .args .depth) (start .ensures) (read-head .ensures) (ap headOf (c .enum-told8 .given .1)))
+    sym (form-none sizes (s .args .text .now) (s .args .depth) (c .before .before .before .start .ensures) (c .before .before .read-head .ensures)
+    (ap headOf (c .enum-told8 .given .1)))
 
 pub +arg+form-spec : {M : Type 1} → statement M
 +arg+form-spec = close μ-arg μ-form (λ t. arg-lts.spec (arg-in t) (arg-at t) arg.Post

@@ -38,16 +38,13 @@ short-word-requires c κs = search needs
 
 returns-2 : tie.Need-returns-2
 returns-2 c =
-    let at4 = c .before .before .at4 in
-    let letter2 = c .before .before .before .letter2 in
-    let at3 = c .before .before .before .before .at3 in
-    let letter = c .before .before .before .before .before .letter in
     let at2 = c .before .before .before .before .before .before .at2 in
     let if1 = c .before .before .before .before .before .before .before .if1 in
     let at = c .before .before .before .before .before .before .before .before .at in
     let s = c .before .before .before .before .before .before .before .before .before .before in
-    c .short-word .ensures ∙ rw (letter .ensures, letter2 .ensures) (head-short (s .args .text .now) (at .ensures) (if1 .left) (at2 .ensures) (at3 .ensures)
-    (at4 .ensures) (omega arith) (omega arith) (omega arith) (c .before .if2 .taken))
+    c .short-word .ensures ∙ rw (c .before .before .before .before .before .letter .ensures, c .before .before .before .letter2 .ensures) (head-short
+    (s .args .text .now) (at .ensures) (if1 .left) (at2 .ensures) (c .before .before .before .before .at3 .ensures) (c .before .before .at4 .ensures) (omega arith)
+    (omega arith) (omega arith) (c .before .if2 .taken))
 
 at-requires-5 : tie.Need-at-requires-5
 at-requires-5 c κs = search needs
@@ -72,10 +69,6 @@ long-word-requires c κs = search needs
 
 returns-3 : tie.Need-returns-3
 returns-3 c =
-    let if3 = c .before .before .if3 in
-    let at5 = c .before .before .before .at5 in
-    let if2 = c .before .before .before .before .if2 in
-    let at4 = c .before .before .before .before .before .at4 in
     let letter2 = c .before .before .before .before .before .before .letter2 in
     let at3 = c .before .before .before .before .before .before .before .at3 in
     let letter = c .before .before .before .before .before .before .before .before .letter in
@@ -84,19 +77,17 @@ returns-3 c =
     let at = c .before .before .before .before .before .before .before .before .before .before .before .at in
     let s = c .before .before .before .before .before .before .before .before .before .before .before .before .before in
     c .long-word .ensures ∙ rw (letter .ensures, letter2 .ensures, c .before .letter3 .ensures) (head-long (s .args .text .now) (at .ensures) (if1 .left) (at2 .ensures)
-    (at3 .ensures) (at4 .ensures) (omega arith) (omega arith) (omega arith) (if2 .left) (at5 .ensures) (if3 .taken))
+    (at3 .ensures) (c .before .before .before .before .before .at4 .ensures) (omega arith) (omega arith) (omega arith) (c .before .before .before .before .if2 .left)
+    (c .before .before .before .at5 .ensures) (c .before .before .if3 .taken))
 
 returns-4 : tie.Need-returns-4
 returns-4 c =
-    let if2 = c .before .before .if2 in
-    let at4 = c .before .before .before .at4 in
-    let at3 = c .before .before .before .before .before .at3 in
     let at2 = c .before .before .before .before .before .before .before .at2 in
     let if1 = c .before .before .before .before .before .before .before .before .if1 in
     let at = c .before .before .before .before .before .before .before .before .before .at in
     let s = c .before .before .before .before .before .before .before .before .before .before .before in
-    head-open (s .args .text .now) (at .ensures) (if1 .left) (at2 .ensures) (at3 .ensures) (at4 .ensures) (omega arith) (omega arith) (omega arith) (if2 .left) (c .before .at5 .ensures)
-    (c .if3 .left)
+    head-open (s .args .text .now) (at .ensures) (if1 .left) (at2 .ensures) (c .before .before .before .before .before .at3 .ensures) (c .before .before .before .at4 .ensures)
+    (omega arith) (omega arith) (omega arith) (c .before .before .if2 .left) (c .before .at5 .ensures) (c .if3 .left)
 
 pub read-head-spec : {M : Type 1} → statement M
 read-head-spec =

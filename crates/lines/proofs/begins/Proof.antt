@@ -20,9 +20,9 @@ loop-holds c = (omega arith, refl)
 
 returns : tie.Need-returns Inv-loop μ-loop
 returns c =
-    let m = c .before .before in
     let s = c .before .before .before in
-    sym (sym (m .loop .inv .1) ∙ begins-end (s .args .word .now) (s .args .text .now) (m .loop .i) (c .before .loop-test .taken) (c .if1 .taken))
+    sym (sym (c .before .before .loop .inv .1) ∙ begins-end (s .args .word .now) (s .args .text .now) (c .before .before .loop .i) (c .before .loop-test .taken)
+    (c .if1 .taken))
 
 shared-slice-read-if2 : tie.Need-shared-slice-read-if2 Inv-loop μ-loop
 shared-slice-read-if2 c = search needs
@@ -32,10 +32,10 @@ shared-slice-read-if2-2 c = search needs
 
 returns-2 : tie.Need-returns-2 Inv-loop μ-loop
 returns-2 c =
-    let loop-test = c .before .before .before .before .loop-test in
     let m = c .before .before .before .before .before in
     let s = c .before .before .before .before .before .before in
-    sym (sym (m .loop .inv .1) ∙ begins-not (s .args .word .now) (s .args .text .now) (m .loop .i) (loop-test .taken) (omega arith) (c .if2 .taken))
+    sym (sym (m .loop .inv .1) ∙ begins-not (s .args .word .now) (s .args .text .now) (m .loop .i) (c .before .before .before .before .loop-test .taken) (omega arith)
+    (c .if2 .taken))
 
 add-i : tie.Need-add-i Inv-loop μ-loop
 add-i c = search needs
@@ -45,10 +45,12 @@ loop-less c = omega arith
 
 loop-again : tie.Need-loop-again Inv-loop μ-loop
 loop-again c =
-    let loop-test = c .before .before .before .before .loop-test in
     let m = c .before .before .before .before .before in
-    let s = c .before .before .before .before .before .before in
-    (omega arith, begins-more (s .args .word .now) (s .args .text .now) (m .loop .i) (loop-test .taken) (omega arith) (c .if2 .left) ∙ m .loop .inv .1)
+    let s = c .before .before .before .before .before .before in (
+      omega arith,
+      begins-more (s .args .word .now) (s .args .text .now) (m .loop .i) (c .before .before .before .before .loop-test .taken) (omega arith) (c .if2 .left) ∙
+          m .loop .inv .1,
+    )
 
 returns-3 : tie.Need-returns-3 Inv-loop μ-loop
 returns-3 c = sym (sym (c .before .loop .inv .1) ∙ begins-all (c .before .before .args .word .now) (c .before .before .args .text .now) (c .before .loop .i) (omega arith))

@@ -20,15 +20,13 @@ enum-known-r c = search needs
 
 add-at : tie.Need-add-at
 add-at c =
-    let read-register = c .before .before .before .read-register in
-    let tail = c .before .before .before .before .tail in
     let s = c .before .before .before .before .before .before in
     omega (
       arith,
       s .good .0,
       s .pre,
-      register-part (s .args .text .now) (s .args .k) (tail .ensures)
-          (sym (read-register .ensures) ∙ ap registerOf (c .before .r .given .1)),
+      register-part (s .args .text .now) (s .args .k) (c .before .before .before .before .tail .ensures)
+          (sym (c .before .before .before .read-register .ensures) ∙ ap registerOf (c .before .r .given .1)),
     )
 
 at-requires : tie.Need-at-requires
@@ -36,51 +34,55 @@ at-requires c κs = search needs
 
 add-body : tie.Need-add-body
 add-body c =
-    let r = c .before .before .before .r in
-    let read-register = c .before .before .before .before .before .read-register in
     let tail = c .before .before .before .before .before .before .tail in
     let s = c .before .before .before .before .before .before .before .before in
-    omega (arith, s .good .0, s .pre, register-part (s .args .text .now) (s .args .k) (tail .ensures) (sym (read-register .ensures) ∙ ap registerOf (r .given .1)))
+    omega (
+      arith,
+      s .good .0,
+      s .pre,
+      register-part (s .args .text .now) (s .args .k) (tail .ensures)
+          (sym (c .before .before .before .before .before .read-register .ensures) ∙ ap registerOf (c .before .before .before .r .given .1)),
+    )
 
 add-body-2 : tie.Need-add-body-2
 add-body-2 c =
-    let r = c .before .before .before .r in
     let s = c .before .before .before .before .before .before .before .before in
-    omega (arith, s .good .0, s .pre, byte-lt (s .args .text .now) (s .args .k + r .given .0 .1 .0) (omega (arith, c .before .at .ensures, c .if1 .taken)))
+    omega (
+      arith,
+      s .good .0,
+      s .pre,
+      byte-lt (s .args .text .now) (s .args .k + c .before .before .before .r .given .0 .1 .0)
+          (omega (arith, c .before .at .ensures, c .if1 .taken)),
+    )
 
 body-requires : tie.Need-body-requires
 body-requires c κs =
-    let r = c .before .before .before .r in
     let s = c .before .before .before .before .before .before .before .before in
-    omega (arith, byte-lt (s .args .text .now) (s .args .k + r .given .0 .1 .0) (omega (arith, c .before .at .ensures, c .if1 .taken)))
+    omega (arith, byte-lt (s .args .text .now) (s .args .k + c .before .before .before .r .given .0 .1 .0) (omega (arith, c .before .at .ensures, c .if1 .taken)))
 
 enum-told : tie.Need-enum-told
 enum-told c = search needs
 
 returns : tie.Need-returns
 returns c =
-    let at = c .before .before .at in
-    let r = c .before .before .before .before .r in
     let read-register = c .before .before .before .before .before .before .read-register in
     let tail = c .before .before .before .before .before .before .before .tail in
     let s = c .before .before .before .before .before .before .before .before .before in
-    c .body .ensures ∙ kind-body (s .args .text .now) (s .args .kind) (s .args .k) (tail .ensures) (read-register .ensures) (ap registerOf (r .given .1)) (at .ensures)
-    (c .before .if1 .taken)
+    c .body .ensures ∙ kind-body (s .args .text .now) (s .args .kind) (s .args .k) (tail .ensures) (read-register .ensures) (ap registerOf
+    (c .before .before .before .before .r .given .1)) (c .before .before .at .ensures) (c .before .if1 .taken)
 
 returns-2 : tie.Need-returns-2
 returns-2 c =
-    let r = c .before .before .before .r in
-    let read-register = c .before .before .before .before .before .read-register in
     let tail = c .before .before .before .before .before .before .tail in
     let s = c .before .before .before .before .before .before .before .before in
-    kind-no-space (s .args .text .now) (s .args .kind) (s .args .k) (tail .ensures) (read-register .ensures) (ap registerOf (r .given .1)) (c .before .at .ensures) (c .if1 .left)
+    kind-no-space (s .args .text .now) (s .args .kind) (s .args .k) (tail .ensures) (c .before .before .before .before .before .read-register .ensures) (ap registerOf
+    (c .before .before .before .r .given .1)) (c .before .at .ensures) (c .if1 .left)
 
 returns-3 : tie.Need-returns-3
 returns-3 c =
-    let read-register = c .before .before .read-register in
-    let tail = c .before .before .before .tail in
     let s = c .before .before .before .before .before in
-    kind-no-register (s .args .text .now) (s .args .kind) (s .args .k) (tail .ensures) (read-register .ensures) (ap registerOf (c .enum-told .given .1))
+    kind-no-register (s .args .text .now) (s .args .kind) (s .args .k) (c .before .before .before .tail .ensures) (c .before .before .read-register .ensures) (ap
+    registerOf (c .enum-told .given .1))
 
 pub kind-line-spec : {M : Type 1} → statement M
 kind-line-spec =

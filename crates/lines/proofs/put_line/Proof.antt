@@ -19,53 +19,57 @@ enum-known-n c = search needs
 
 add-ends : tie.Need-add-ends
 add-ends c =
-    let arg = c .before .before .before .arg in
-    let tail = c .before .before .before .before .tail in
     let s = c .before .before .before .before .before .before in
-    omega (arith, s .good .0, s .pre, part-within sizes (s .args .text .now) _ (s .args .i) (tail .ensures) (arg .ensures) (ap gotOf (c .before .n .given .1)))
+    omega (
+      arith,
+      s .good .0,
+      s .pre,
+      part-within sizes (s .args .text .now) _ (s .args .i) (c .before .before .before .before .tail .ensures)
+          (c .before .before .before .arg .ensures) (ap gotOf (c .before .n .given .1)),
+    )
 
 ends-requires : tie.Need-ends-requires
 ends-requires c κs =
-    let arg = c .before .before .before .arg in
-    let tail = c .before .before .before .before .tail in
     let s = c .before .before .before .before .before .before in
-    omega (arith, s .good .0, s .pre, part-within sizes (s .args .text .now) _ (s .args .i) (tail .ensures) (arg .ensures) (ap gotOf (c .before .n .given .1)))
+    omega (
+      arith,
+      s .good .0,
+      s .pre,
+      part-within sizes (s .args .text .now) _ (s .args .i) (c .before .before .before .before .tail .ensures)
+          (c .before .before .before .arg .ensures) (ap gotOf (c .before .n .given .1)),
+    )
 
 enum-told : tie.Need-enum-told
 enum-told c = search needs
 
 returns : tie.Need-returns
 returns c =
-    let ends = c .before .before .ends in
-    let n = c .before .before .before .before .n in
     let arg = c .before .before .before .before .before .before .arg in
     let tail = c .before .before .before .before .before .before .before .tail in
     let s = c .before .before .before .before .before .before .before .before .before in
-    put-far (s .args .text .now) (s .args .r) (s .args .i) (tail .ensures) (arg .ensures) (ap gotOf (n .given .1)) (ends .ensures) (c .before .if1 .taken) (c .if2 .taken)
+    put-far (s .args .text .now) (s .args .r) (s .args .i) (tail .ensures) (arg .ensures) (ap gotOf (c .before .before .before .before .n .given .1)) (c .before .before .ends .ensures)
+    (c .before .if1 .taken) (c .if2 .taken)
 
 returns-2 : tie.Need-returns-2
 returns-2 c =
-    let ends = c .before .before .ends in
-    let n = c .before .before .before .before .n in
     let arg = c .before .before .before .before .before .before .arg in
     let tail = c .before .before .before .before .before .before .before .tail in
     let s = c .before .before .before .before .before .before .before .before .before in
-    put-is (s .args .text .now) (s .args .r) (s .args .i) (tail .ensures) (arg .ensures) (ap gotOf (n .given .1)) (ends .ensures) (c .before .if1 .taken) (c .if2 .left)
+    put-is (s .args .text .now) (s .args .r) (s .args .i) (tail .ensures) (arg .ensures) (ap gotOf (c .before .before .before .before .n .given .1)) (c .before .before .ends .ensures)
+    (c .before .if1 .taken) (c .if2 .left)
 
 returns-3 : tie.Need-returns-3
 returns-3 c =
-    let n = c .before .before .before .n in
-    let arg = c .before .before .before .before .before .arg in
     let tail = c .before .before .before .before .before .before .tail in
     let s = c .before .before .before .before .before .before .before .before in
-    put-unended (s .args .text .now) (s .args .r) (s .args .i) (tail .ensures) (arg .ensures) (ap gotOf (n .given .1)) (c .before .ends .ensures) (c .if1 .left)
+    put-unended (s .args .text .now) (s .args .r) (s .args .i) (tail .ensures) (c .before .before .before .before .before .arg .ensures) (ap gotOf
+    (c .before .before .before .n .given .1)) (c .before .ends .ensures) (c .if1 .left)
 
 returns-4 : tie.Need-returns-4
 returns-4 c =
-    let arg = c .before .before .arg in
-    let tail = c .before .before .before .tail in
     let s = c .before .before .before .before .before in
-    put-bad (s .args .text .now) (s .args .r) (s .args .i) (tail .ensures) (arg .ensures) (ap gotOf (c .enum-told .given .1))
+    put-bad (s .args .text .now) (s .args .r) (s .args .i) (c .before .before .before .tail .ensures) (c .before .before .arg .ensures) (ap gotOf
+    (c .enum-told .given .1))
 
 pub put-line-spec : {M : Type 1} → statement M
 put-line-spec =

@@ -13,15 +13,13 @@ returns-2 c =
 
 returns-3 : tie.Need-returns-3
 returns-3 c =
-    let if1 = c .before .before .if1 in
     let s = c .before .before .before in
-    range-hold (s .args .held) (s .args .r) (s .args .lo) (s .args .hi) (if1 .left) (s .fits .lo) (s .fits .hi) (c .before .if2 .left) (c .if3 .taken)
+    range-hold (s .args .held) (s .args .r) (s .args .lo) (s .args .hi) (c .before .before .if1 .left) (s .fits .lo) (s .fits .hi) (c .before .if2 .left) (c .if3 .taken)
 
 returns-4 : tie.Need-returns-4
 returns-4 c =
-    let if1 = c .before .before .if1 in
     let s = c .before .before .before in
-    range-in (s .args .held) (s .args .r) (s .args .lo) (s .args .hi) (if1 .left) (s .fits .lo) (s .fits .hi) (c .before .if2 .left) (c .if3 .left)
+    range-in (s .args .held) (s .args .r) (s .args .lo) (s .args .hi) (c .before .before .if1 .left) (s .fits .lo) (s .fits .hi) (c .before .if2 .left) (c .if3 .left)
 
 pub range-line-spec : {M : Type 1} → statement M
 range-line-spec = tie.close (tie.spec returns returns-2 returns-3 returns-4)

@@ -28,11 +28,9 @@ kind-line-requires-2 c κs = search needs
 
 returns-2 : tie.Need-returns-2
 returns-2 c =
-    let begins2 = c .before .before .begins2 in
-    let if1 = c .before .before .before .before .if1 in
-    let begins = c .before .before .before .before .before .begins in
     let s = c .before .before .before .before .before .before .before .before in
-    c .kind-line2 .ensures ∙ line-put (s .args .text .now) (begins .ensures) (if1 .left) (begins2 .ensures) (c .before .if2 .taken)
+    c .kind-line2 .ensures ∙ line-put (s .args .text .now) (c .before .before .before .before .before .begins .ensures) (c .before .before .before .before .if1 .left) (c .before .before .begins2 .ensures)
+    (c .before .if2 .taken)
 
 slice-aggregate-begins-3 : tie.Need-slice-aggregate-begins-3
 slice-aggregate-begins-3 c = search needs
@@ -45,22 +43,19 @@ kind-line-requires-3 c κs = search needs
 
 returns-3 : tie.Need-returns-3
 returns-3 c =
-    let begins3 = c .before .before .begins3 in
-    let if2 = c .before .before .before .before .if2 in
-    let begins2 = c .before .before .before .before .before .begins2 in
     let if1 = c .before .before .before .before .before .before .before .if1 in
     let begins = c .before .before .before .before .before .before .before .before .begins in
     let s = c .before .before .before .before .before .before .before .before .before .before .before in
-    c .kind-line3 .ensures ∙ line-hold (s .args .text .now) (begins .ensures) (if1 .left) (begins2 .ensures) (if2 .left) (begins3 .ensures) (c .before .if3 .taken)
+    c .kind-line3 .ensures ∙ line-hold (s .args .text .now) (begins .ensures) (if1 .left) (c .before .before .before .before .before .begins2 .ensures) (c .before .before .before .before .if2 .left)
+    (c .before .before .begins3 .ensures) (c .before .if3 .taken)
 
 returns-4 : tie.Need-returns-4
 returns-4 c =
-    let if2 = c .before .before .before .if2 in
-    let begins2 = c .before .before .before .before .begins2 in
     let if1 = c .before .before .before .before .before .before .if1 in
     let begins = c .before .before .before .before .before .before .before .begins in
     let s = c .before .before .before .before .before .before .before .before .before .before in
-    line-none (s .args .text .now) (begins .ensures) (if1 .left) (begins2 .ensures) (if2 .left) (c .before .begins3 .ensures) (c .if3 .left)
+    line-none (s .args .text .now) (begins .ensures) (if1 .left) (c .before .before .before .before .begins2 .ensures) (c .before .before .before .if2 .left) (c .before .begins3 .ensures)
+    (c .if3 .left)
 
 pub read-line-spec : {M : Type 1} → statement M
 read-line-spec =

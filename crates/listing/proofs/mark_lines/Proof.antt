@@ -28,30 +28,29 @@ part-mark-start c = omega (arith, c .before .line-end .ensures)
 
 part-mark-end : tie.Need-part-mark-end Inv-loop μ-loop
 part-mark-end c =
-    let loop-test = c .before .before .loop-test in
     let m = c .before .before .before in
     let s = c .before .before .before .before .before in
     omega (
       arith,
-      marking-end (s .args .text .now) (s .args .n) (m .loop .marks) (m .loop .i) (m .loop .at) (m .loop .inv .1) (loop-test .taken)
+      marking-end (s .args .text .now) (s .args .n) (m .loop .marks) (m .loop .i) (m .loop .at) (m .loop .inv .1) (c .before .before .loop-test .taken)
           (c .before .line-end .ensures),
     )
 
 mark-requires : tie.Need-mark-requires Inv-loop μ-loop
 mark-requires c κs =
-    let line-end = c .before .before .line-end in
-    let loop-test = c .before .before .before .loop-test in
     let m = c .before .before .before .before in
     let s = c .before .before .before .before .before .before in
-    marking-readable (s .args .text .now) (s .args .n) (m .loop .marks) (m .loop .i) (m .loop .at) (m .loop .inv .1) (loop-test .taken) (line-end .ensures)
+    marking-readable (s .args .text .now) (s .args .n) (m .loop .marks) (m .loop .i) (m .loop .at) (m .loop .inv .1) (c .before .before .before .loop-test .taken) (c .before .before .line-end .ensures)
 
 add-at : tie.Need-add-at Inv-loop μ-loop
 add-at c =
-    let line-end = c .before .before .before .line-end in
-    let loop-test = c .before .before .before .before .loop-test in
     let m = c .before .before .before .before .before in
     let s = c .before .before .before .before .before .before .before in
-    omega (arith, marking-end (s .args .text .now) (s .args .n) (m .loop .marks) (m .loop .i) (m .loop .at) (m .loop .inv .1) (loop-test .taken) (line-end .ensures))
+    omega (
+      arith,
+      marking-end (s .args .text .now) (s .args .n) (m .loop .marks) (m .loop .i) (m .loop .at) (m .loop .inv .1)
+          (c .before .before .before .before .loop-test .taken) (c .before .before .before .line-end .ensures),
+    )
 
 add-i : tie.Need-add-i Inv-loop μ-loop
 add-i c = search needs
@@ -61,13 +60,11 @@ loop-less c = omega arith
 
 loop-again : tie.Need-loop-again Inv-loop μ-loop
 loop-again c =
-    let line-end = c .before .before .before .line-end in
-    let loop-test = c .before .before .before .before .loop-test in
     let m = c .before .before .before .before .before in
     let s = c .before .before .before .before .before .before .before in (
       omega arith,
-      marking-next (s .args .text .now) (s .args .n) (m .loop .marks) (m .loop .i) (m .loop .at) (m .loop .inv .1) (loop-test .taken) (line-end .ensures)
-          (c .mark .ensures),
+      marking-next (s .args .text .now) (s .args .n) (m .loop .marks) (m .loop .i) (m .loop .at) (m .loop .inv .1)
+          (c .before .before .before .before .loop-test .taken) (c .before .before .before .line-end .ensures) (c .mark .ensures),
     )
 
 returns : tie.Need-returns Inv-loop μ-loop

@@ -28,9 +28,8 @@ shared-slice-read-if2 c = omega arith
 
 returns-2 : tie.Need-returns-2 Inv-loop μ-loop
 returns-2 c =
-    let m = c .before .before .before .before .before in
     let s = c .before .before .before .before .before .before in
-    omega (arith, digits-high (s .args .text .now) (m .loop .i) (omega arith) (omega arith) (omega arith))
+    omega (arith, digits-high (s .args .text .now) (c .before .before .before .before .before .loop .i) (omega arith) (omega arith) (omega arith))
 
 add-i : tie.Need-add-i Inv-loop μ-loop
 add-i c = omega arith
@@ -40,9 +39,8 @@ loop-less c = omega arith
 
 loop-again : tie.Need-loop-again Inv-loop μ-loop
 loop-again c =
-    let m = c .before .before .before .before .before in
     let s = c .before .before .before .before .before .before in
-    omega (arith, digits-more (s .args .text .now) (m .loop .i) (omega arith) (omega arith) (omega arith))
+    omega (arith, digits-more (s .args .text .now) (c .before .before .before .before .before .loop .i) (omega arith) (omega arith) (omega arith))
 
 returns-3 : tie.Need-returns-3 Inv-loop μ-loop
 returns-3 c = omega (arith, digits-end (c .before .before .args .text .now) (c .before .loop .i) (omega arith))

@@ -18,11 +18,7 @@ unsigned-requires-2 : tie.Need-unsigned-requires-2
 unsigned-requires-2 c κs = search needs
 
 returns : tie.Need-returns
-returns c =
-    let if1 = c .before .before .if1 in
-    let at = c .before .before .before .at in
-    let s = c .before .before .before .before .before in
-    c .unsigned .ensures ∙ literal-minus (s .args .text .now) (at .ensures) (if1 .taken) (c .before .tail .ensures)
+returns c = c .unsigned .ensures ∙ literal-minus (c .before .before .before .before .before .args .text .now) (c .before .before .before .at .ensures) (c .before .before .if1 .taken) (c .before .tail .ensures)
 
 returns-2 : tie.Need-returns-2
 returns-2 c = c .unsigned2 .ensures ∙ literal-plus (c .before .before .before .before .args .text .now) (c .before .before .at .ensures) (c .before .if1 .left)

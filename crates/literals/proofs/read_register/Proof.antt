@@ -14,11 +14,7 @@ needless-requires : tie.Need-needless-requires
 needless-requires c κs = search needs
 
 returns-2 : tie.Need-returns-2
-returns-2 c =
-    let if1 = c .before .before .if1 in
-    let digits = c .before .before .before .digits in
-    let s = c .before .before .before .before .before in
-    register-needless (s .args .text .now) (digits .ensures) (if1 .left) (c .before .needless .ensures) (c .if2 .taken)
+returns-2 c = register-needless (c .before .before .before .before .before .args .text .now) (c .before .before .before .digits .ensures) (c .before .before .if1 .left) (c .before .needless .ensures) (c .if2 .taken)
 
 first-requires : tie.Need-first-requires
 first-requires c κs = search needs
@@ -28,23 +24,17 @@ number-requires c κs = search needs
 
 returns-3 : tie.Need-returns-3
 returns-3 c =
-    let first = c .before .before .first in
-    let if2 = c .before .before .before .if2 in
-    let needless = c .before .before .before .before .needless in
-    let if1 = c .before .before .before .before .before .if1 in
     let digits = c .before .before .before .before .before .before .digits in
     let s = c .before .before .before .before .before .before .before .before in
-    register-there (s .args .text .now) (digits .ensures) (if1 .left) (needless .ensures) (if2 .left) (first .ensures) (c .before .number .ensures) (c .if3 .taken)
+    register-there (s .args .text .now) (digits .ensures) (c .before .before .before .before .before .if1 .left) (c .before .before .before .before .needless .ensures)
+    (c .before .before .before .if2 .left) (c .before .before .first .ensures) (c .before .number .ensures) (c .if3 .taken)
 
 returns-4 : tie.Need-returns-4
 returns-4 c =
-    let first = c .before .before .first in
-    let if2 = c .before .before .before .if2 in
-    let needless = c .before .before .before .before .needless in
-    let if1 = c .before .before .before .before .before .if1 in
     let digits = c .before .before .before .before .before .before .digits in
     let s = c .before .before .before .before .before .before .before .before in
-    register-past (s .args .text .now) (digits .ensures) (if1 .left) (needless .ensures) (if2 .left) (first .ensures) (c .before .number .ensures) (c .if3 .left)
+    register-past (s .args .text .now) (digits .ensures) (c .before .before .before .before .before .if1 .left) (c .before .before .before .before .needless .ensures) (c .before .before .before .if2 .left)
+    (c .before .before .first .ensures) (c .before .number .ensures) (c .if3 .left)
 
 pub read-register-spec : {M : Type 1} → statement M
 read-register-spec =

@@ -20,10 +20,9 @@ needless-requires c κs = search needs
 
 returns-2 : tie.Need-returns-2
 returns-2 c =
-    let if1 = c .before .before .if1 in
-    let digits = c .before .before .before .digits in
     let s = c .before .before .before .before .before in
-    unsigned-needless (s .args .negated) (s .args .o) (s .args .text .now) (digits .ensures) (if1 .left) (c .before .needless .ensures) (c .if2 .taken)
+    unsigned-needless (s .args .negated) (s .args .o) (s .args .text .now) (c .before .before .before .digits .ensures) (c .before .before .if1 .left) (c .before .needless .ensures)
+    (c .if2 .taken)
 
 first-requires : tie.Need-first-requires
 first-requires c κs = search needs
@@ -48,17 +47,13 @@ finish-requires c κs = search needs
 
 returns-3 : tie.Need-returns-3
 returns-3 c =
-    let if3 = c .before .before .if3 in
-    let at = c .before .before .before .at in
-    let number = c .before .before .before .before .number in
-    let first = c .before .before .before .before .before .first in
     let if2 = c .before .before .before .before .before .before .if2 in
     let needless = c .before .before .before .before .before .before .before .needless in
     let if1 = c .before .before .before .before .before .before .before .before .if1 in
     let digits = c .before .before .before .before .before .before .before .before .before .digits in
     let s = c .before .before .before .before .before .before .before .before .before .before .before in
-    c .finish .ensures ∙ unsigned-whole (s .args .negated) (s .args .o) (s .args .text .now) (digits .ensures) (if1 .left) (needless .ensures) (if2 .left) (at .ensures)
-    (first .ensures) (number .ensures) (if3 .taken) (c .before .scaled .ensures)
+    c .finish .ensures ∙ unsigned-whole (s .args .negated) (s .args .o) (s .args .text .now) (digits .ensures) (if1 .left) (needless .ensures) (if2 .left) (c .before .before .before .at .ensures)
+    (c .before .before .before .before .before .first .ensures) (c .before .before .before .before .number .ensures) (c .before .before .if3 .taken) (c .before .scaled .ensures)
 
 add-tail : tie.Need-add-tail
 add-tail c =
@@ -74,25 +69,18 @@ digits-requires-2 c κs = search needs
 
 returns-4 : tie.Need-returns-4
 returns-4 c =
-    let tail = c .before .before .tail in
-    let if3 = c .before .before .before .if3 in
-    let at = c .before .before .before .before .at in
-    let number = c .before .before .before .before .before .number in
     let first = c .before .before .before .before .before .before .first in
     let if2 = c .before .before .before .before .before .before .before .if2 in
     let needless = c .before .before .before .before .before .before .before .before .needless in
     let if1 = c .before .before .before .before .before .before .before .before .before .if1 in
     let digits = c .before .before .before .before .before .before .before .before .before .before .digits in
     let s = c .before .before .before .before .before .before .before .before .before .before .before .before in
-    unsigned-no-decimal (s .args .negated) (s .args .o) (s .args .text .now) (digits .ensures) (if1 .left) (needless .ensures) (if2 .left) (at .ensures) (first .ensures)
-    (number .ensures) (if3 .left) (tail .ensures) (c .before .digits2 .ensures) (c .if4 .taken)
+    unsigned-no-decimal (s .args .negated) (s .args .o) (s .args .text .now) (digits .ensures) (if1 .left) (needless .ensures) (if2 .left) (c .before .before .before .before .at .ensures)
+    (first .ensures) (c .before .before .before .before .before .number .ensures) (c .before .before .before .if3 .left) (c .before .before .tail .ensures) (c .before .digits2 .ensures)
+    (c .if4 .taken)
 
 returns-5 : tie.Need-returns-5
 returns-5 c =
-    let digits2 = c .before .before .digits2 in
-    let tail = c .before .before .before .tail in
-    let if3 = c .before .before .before .before .if3 in
-    let at = c .before .before .before .before .before .at in
     let number = c .before .before .before .before .before .before .number in
     let first = c .before .before .before .before .before .before .before .first in
     let if2 = c .before .before .before .before .before .before .before .before .if2 in
@@ -100,8 +88,9 @@ returns-5 c =
     let if1 = c .before .before .before .before .before .before .before .before .before .before .if1 in
     let digits = c .before .before .before .before .before .before .before .before .before .before .before .digits in
     let s = c .before .before .before .before .before .before .before .before .before .before .before .before .before in
-    unsigned-long (s .args .negated) (s .args .o) (s .args .text .now) (digits .ensures) (if1 .left) (needless .ensures) (if2 .left) (at .ensures) (first .ensures)
-    (number .ensures) (if3 .left) (tail .ensures) (digits2 .ensures) (c .before .if4 .left) (c .if5 .taken)
+    unsigned-long (s .args .negated) (s .args .o) (s .args .text .now) (digits .ensures) (if1 .left) (needless .ensures) (if2 .left) (c .before .before .before .before .before .at .ensures)
+    (first .ensures) (number .ensures) (c .before .before .before .before .if3 .left) (c .before .before .before .tail .ensures) (c .before .before .digits2 .ensures) (c .before .if4 .left)
+    (c .if5 .taken)
 
 first-requires-2 : tie.Need-first-requires-2
 first-requires-2 c κs = search needs
@@ -114,34 +103,27 @@ scaled-requires-2 c κs = search needs
 
 add-finish-2 : tie.Need-add-finish-2
 add-finish-2 c =
-    let if5 = c .before .before .before .if5 in
     let digits = c .before .before .before .before .before .before .before .before .before .before .before .before .before .before .digits in
     let s = c .before .before .before .before .before .before .before .before .before .before .before .before .before .before .before .before in
-    omega (arith, digits-le (s .args .text .now), digits .ensures, s .good, s .pre, if5 .left)
+    omega (arith, digits-le (s .args .text .now), digits .ensures, s .good, s .pre, c .before .before .before .if5 .left)
 
 add-finish-3 : tie.Need-add-finish-3
 add-finish-3 c =
-    let if5 = c .before .before .before .if5 in
     let digits = c .before .before .before .before .before .before .before .before .before .before .before .before .before .before .digits in
     let s = c .before .before .before .before .before .before .before .before .before .before .before .before .before .before .before .before in
-    omega (arith, digits-le (s .args .text .now), digits .ensures, s .good, s .pre, if5 .left)
+    omega (arith, digits-le (s .args .text .now), digits .ensures, s .good, s .pre, c .before .before .before .if5 .left)
 
 add-finish-4 : tie.Need-add-finish-4
 add-finish-4 c =
-    let if5 = c .before .before .before .if5 in
     let digits = c .before .before .before .before .before .before .before .before .before .before .before .before .before .before .digits in
     let s = c .before .before .before .before .before .before .before .before .before .before .before .before .before .before .before .before in
-    omega (arith, digits-le (s .args .text .now), digits .ensures, s .good, s .pre, if5 .left)
+    omega (arith, digits-le (s .args .text .now), digits .ensures, s .good, s .pre, c .before .before .before .if5 .left)
 
 finish-requires-2 : tie.Need-finish-requires-2
 finish-requires-2 c κs = search needs
 
 returns-6 : tie.Need-returns-6
 returns-6 c =
-    let number2 = c .before .before .number2 in
-    let first2 = c .before .before .before .first2 in
-    let if5 = c .before .before .before .before .if5 in
-    let if4 = c .before .before .before .before .before .if4 in
     let digits2 = c .before .before .before .before .before .before .digits2 in
     let tail = c .before .before .before .before .before .before .before .tail in
     let if3 = c .before .before .before .before .before .before .before .before .if3 in
@@ -154,7 +136,8 @@ returns-6 c =
     let digits = c .before .before .before .before .before .before .before .before .before .before .before .before .before .before .before .digits in
     let s = c .before .before .before .before .before .before .before .before .before .before .before .before .before .before .before .before .before in
     c .finish2 .ensures ∙ unsigned-decimal (s .args .negated) (s .args .o) (s .args .text .now) (digits .ensures) (if1 .left) (needless .ensures) (if2 .left) (at .ensures)
-    (first .ensures) (number .ensures) (if3 .left) (tail .ensures) (digits2 .ensures) (if4 .left) (if5 .left) (first2 .ensures) (number2 .ensures) (c .before .scaled2 .ensures)
+    (first .ensures) (number .ensures) (if3 .left) (tail .ensures) (digits2 .ensures) (c .before .before .before .before .before .if4 .left) (c .before .before .before .before .if5 .left)
+    (c .before .before .before .first2 .ensures) (c .before .before .number2 .ensures) (c .before .scaled2 .ensures)
 
 pub unsigned-spec : {M : Type 1} → statement M
 unsigned-spec =

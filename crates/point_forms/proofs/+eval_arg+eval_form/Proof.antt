@@ -10,8 +10,8 @@ use Rattle.meaning.specs.Reading.{closed}
 use Rattle.laws.proofs.Fusion.{register-below}
 use Rattle.literals.specs.Answer.{registerOf}
 use Rattle.forms.specs.Answer.{headOf}
-use Rattle.literals.proofs.Within.{byte-lt, rest-is, register-part}
-use Rattle.forms.proofs.Within.{start-le, part-within}
+use Rattle.literals.proofs.Within.{byte-lt, rest-is}
+use Rattle.forms.proofs.Within.{register-room, first-room, second-room}
 use Rattle.forms.proofs.Forms.{arg-none, arg-form, form-none, form-register, form-no-register, form-one, form-one-bad, form-two-bad, form-no-space, form-two, form-second-bad}
 use Rattle.point_forms.specs.Answer.{points, valueGot}
 use Rattle.point_forms.proofs.Points.{point-literal, point-bad}
@@ -83,32 +83,26 @@ eval-arg-enum-told t c = search needs
 
 eval-arg-returns : (t : ℕ) → eval-arg-lts.Need-returns (eval-arg-in t) (eval-arg-at t) eval-arg.Post
 eval-arg-returns t c =
-    let at = c .before .before .at in
     let s = c .before .before .before .before in
-    sym (arg-none (points (s .args .state .now)) (s .args .text .now) (s .args .depth) (at .ensures) (c .before .if1 .taken) (c .if2 .taken))
+    sym (arg-none (points (s .args .state .now)) (s .args .text .now) (s .args .depth) (c .before .before .at .ensures) (c .before .if1 .taken) (c .if2 .taken))
 
 eval-arg-returns-2 : (t : ℕ) → eval-arg-lts.Need-returns-2 (eval-arg-in t) (eval-arg-at t) eval-arg.Post
 eval-arg-returns-2 t c =
-    let if1 = c .before .before .if1 in
-    let at = c .before .before .before .at in
     let s = c .before .before .before .before .before in
-    c .eval-form .ensures ∙ sym (arg-form (points (s .args .state .now)) (s .args .text .now) (s .args .depth) (at .ensures) (if1 .taken) (c .before .if2 .left))
+    c .eval-form .ensures ∙ sym (arg-form (points (s .args .state .now)) (s .args .text .now) (s .args .depth) (c .before .before .before .at .ensures)
+    (c .before .before .if1 .taken) (c .before .if2 .left))
 
 eval-arg-returns-3 : (t : ℕ) → eval-arg-lts.Need-returns-3 (eval-arg-in t) (eval-arg-at t) eval-arg.Post
 eval-arg-returns-3 t c =
-    let read-literal = c .before .before .before .read-literal in
-    let if1 = c .before .before .before .before .if1 in
-    let at = c .before .before .before .before .before .at in
     let s = c .before .before .before .before .before .before .before in
-    point-literal (s .args .state .now) (s .args .text .now) (s .args .depth) (at .ensures) (if1 .left) (read-literal .ensures) (c .before .z .given .1)
+    point-literal (s .args .state .now) (s .args .text .now) (s .args .depth) (c .before .before .before .before .before .at .ensures) (c .before .before .before .before .if1 .left)
+    (c .before .before .before .read-literal .ensures) (c .before .z .given .1)
 
 eval-arg-returns-4 : (t : ℕ) → eval-arg-lts.Need-returns-4 (eval-arg-in t) (eval-arg-at t) eval-arg.Post
 eval-arg-returns-4 t c =
-    let read-literal = c .before .before .read-literal in
-    let if1 = c .before .before .before .if1 in
-    let at = c .before .before .before .before .at in
     let s = c .before .before .before .before .before .before in
-    point-bad (s .args .state .now) (s .args .text .now) (s .args .depth) (at .ensures) (if1 .left) (read-literal .ensures) (c .enum-told .given .1)
+    point-bad (s .args .state .now) (s .args .text .now) (s .args .depth) (c .before .before .before .before .at .ensures) (c .before .before .before .if1 .left) (c .before .before .read-literal .ensures)
+    (c .enum-told .given .1)
 
 eval-form-start-requires : (t : ℕ) → eval-form-lts.Need-start-requires (eval-form-in t) (eval-form-at t) eval-form.Post
 eval-form-start-requires t c κs = search needs
@@ -130,45 +124,28 @@ eval-form-enum-known-r t c = search needs
 
 eval-form-add-closed : (t : ℕ) → eval-form-lts.Need-add-closed (eval-form-in t) (eval-form-at t) eval-form.Post
 eval-form-add-closed t c =
-    let read-register = c .before .before .before .read-register in
-    let tail = c .before .before .before .before .tail in
     let start = c .before .before .before .before .before .before .before .before .start in
     let s = c .before .before .before .before .before .before .before .before .before .before in
     omega (
       arith,
-      start-le (s .args .text .now),
-      start .ensures,
-      s .good .0,
-      register-part (s .args .text .now) (start .result) (tail .ensures)
-          (sym (read-register .ensures) ∙ ap registerOf (c .before .r .given .1)),
+      register-room (s .args .text .now) (s .good .0 .1) (start .ensures) (c .before .before .before .before .tail .ensures)
+          (sym (c .before .before .before .read-register .ensures) ∙ ap registerOf (c .before .r .given .1)),
     )
 
 eval-form-mul-t22 : (t : ℕ) → eval-form-lts.Need-mul-t22 (eval-form-in t) (eval-form-at t) eval-form.Post
-eval-form-mul-t22 t c =
-    let read-register = c .before .before .before .read-register in
-    let tail = c .before .before .before .before .tail in
-    omega (arith, register-below (tail .result .now) (sym (read-register .ensures) ∙ ap registerOf (c .before .r .given .1)))
+eval-form-mul-t22 t c = omega (arith, register-below (c .before .before .before .before .tail .result .now) (sym (c .before .before .before .read-register .ensures) ∙ ap registerOf (c .before .r .given .1)))
 
 eval-form-element-copy-out-t25 : (t : ℕ) → eval-form-lts.Need-element-copy-out-t25 (eval-form-in t) (eval-form-at t) eval-form.Post
-eval-form-element-copy-out-t25 t c =
-    let read-register = c .before .before .before .read-register in
-    let tail = c .before .before .before .before .tail in
-    register-below (tail .result .now) (sym (read-register .ensures) ∙ ap registerOf (c .before .r .given .1))
+eval-form-element-copy-out-t25 t c = register-below (c .before .before .before .before .tail .result .now) (sym (c .before .before .before .read-register .ensures) ∙ ap registerOf (c .before .r .given .1))
 
 eval-form-closed-requires : (t : ℕ) → eval-form-lts.Need-closed-requires (eval-form-in t) (eval-form-at t) eval-form.Post
 eval-form-closed-requires t c κs =
-    let r = c .before .before .r in
-    let read-register = c .before .before .before .before .read-register in
-    let tail = c .before .before .before .before .before .tail in
     let start = c .before .before .before .before .before .before .before .before .before .start in
     let s = c .before .before .before .before .before .before .before .before .before .before .before in
     omega (
       arith,
-      start-le (s .args .text .now),
-      start .ensures,
-      s .good .0,
-      register-part (s .args .text .now) (start .result) (tail .ensures)
-          (sym (read-register .ensures) ∙ ap registerOf (r .given .1)),
+      register-room (s .args .text .now) (s .good .0 .1) (start .ensures) (c .before .before .before .before .before .tail .ensures)
+          (sym (c .before .before .before .before .read-register .ensures) ∙ ap registerOf (c .before .before .r .given .1)),
     )
 
 eval-form-enum-told-2 : (t : ℕ) → eval-form-lts.Need-enum-told-2 (eval-form-in t) (eval-form-at t) eval-form.Post
@@ -188,17 +165,12 @@ eval-form-enum-known-a t c = search needs
 
 eval-form-add-closed-2 : (t : ℕ) → eval-form-lts.Need-add-closed-2 (eval-form-in t) (eval-form-at t) eval-form.Post
 eval-form-add-closed-2 t c =
-    let eval-arg = c .before .before .before .eval-arg in
-    let tail2 = c .before .before .before .before .tail2 in
     let start = c .before .before .before .before .before .before .before .before .before .start in
     let s = c .before .before .before .before .before .before .before .before .before .before .before in
     omega (
       arith,
-      start-le (s .args .text .now),
-      start .ensures,
-      s .good .0,
-      part-within (points (s .args .state .now)) (s .args .text .now) (s .args .depth)
-          (start .result) (tail2 .ensures) (eval-arg .ensures) (ap valueGot (c .before .a .given .1)),
+      first-room (s .args .text .now) (s .good .0 .1) (start .ensures) (points (s .args .state .now)) (s .args .depth)
+          (c .before .before .before .before .tail2 .ensures) (c .before .before .before .eval-arg .ensures) (ap valueGot (c .before .a .given .1)),
     )
 
 eval-form-one-requires : (t : ℕ) → eval-form-lts.Need-one-requires (eval-form-in t) (eval-form-at t) eval-form.Post
@@ -206,18 +178,13 @@ eval-form-one-requires t c κs = search needs
 
 eval-form-closed-requires-2 : (t : ℕ) → eval-form-lts.Need-closed-requires-2 (eval-form-in t) (eval-form-at t) eval-form.Post
 eval-form-closed-requires-2 t c κs =
-    let a = c .before .before .a in
-    let eval-arg = c .before .before .before .before .eval-arg in
-    let tail2 = c .before .before .before .before .before .tail2 in
     let start = c .before .before .before .before .before .before .before .before .before .before .start in
     let s = c .before .before .before .before .before .before .before .before .before .before .before .before in
     omega (
       arith,
-      start-le (s .args .text .now),
-      start .ensures,
-      s .good .0,
-      part-within (points (s .args .state .now)) (s .args .text .now) (s .args .depth)
-          (start .result) (tail2 .ensures) (eval-arg .ensures) (ap valueGot (a .given .1)),
+      first-room (s .args .text .now) (s .good .0 .1) (start .ensures) (points (s .args .state .now)) (s .args .depth)
+          (c .before .before .before .before .before .tail2 .ensures) (c .before .before .before .before .eval-arg .ensures)
+          (ap valueGot (c .before .before .a .given .1)),
     )
 
 eval-form-enum-told-3 : (t : ℕ) → eval-form-lts.Need-enum-told-3 (eval-form-in t) (eval-form-at t) eval-form.Post
@@ -237,17 +204,12 @@ eval-form-enum-known-a-2 t c = search needs
 
 eval-form-add-at : (t : ℕ) → eval-form-lts.Need-add-at (eval-form-in t) (eval-form-at t) eval-form.Post
 eval-form-add-at t c =
-    let eval-arg2 = c .before .before .before .eval-arg2 in
-    let tail3 = c .before .before .before .before .tail3 in
     let start = c .before .before .before .before .before .before .before .before .before .start in
     let s = c .before .before .before .before .before .before .before .before .before .before .before in
     omega (
       arith,
-      start-le (s .args .text .now),
-      start .ensures,
-      s .good .0,
-      part-within (points (s .args .state .now)) (s .args .text .now) (s .args .depth)
-          (start .result) (tail3 .ensures) (eval-arg2 .ensures) (ap valueGot (c .before .a2 .given .1)),
+      first-room (s .args .text .now) (s .good .0 .1) (start .ensures) (points (s .args .state .now)) (s .args .depth)
+          (c .before .before .before .before .tail3 .ensures) (c .before .before .before .eval-arg2 .ensures) (ap valueGot (c .before .a2 .given .1)),
     )
 
 eval-form-at-requires : (t : ℕ) → eval-form-lts.Need-at-requires (eval-form-in t) (eval-form-at t) eval-form.Post
@@ -255,68 +217,48 @@ eval-form-at-requires t c κs = search needs
 
 eval-form-returns : (t : ℕ) → eval-form-lts.Need-returns (eval-form-in t) (eval-form-at t) eval-form.Post
 eval-form-returns t c =
-    let a2 = c .before .before .before .a2 in
-    let eval-arg2 = c .before .before .before .before .before .eval-arg2 in
     let tail3 = c .before .before .before .before .before .before .tail3 in
     let op2 = c .before .before .before .before .before .before .before .before .op2 in
     let read-head = c .before .before .before .before .before .before .before .before .before .before .read-head in
     let start = c .before .before .before .before .before .before .before .before .before .before .before .start in
     let s = c .before .before .before .before .before .before .before .before .before .before .before .before .before in
-    sym (form-no-space (points (s .args .state .now)) (s .args .text .now) (s .args .depth) (start .ensures) (read-head .ensures) (tail3 .ensures) (eval-arg2 .ensures)
-    (ap headOf (op2 .given .1)) (ap valueGot (a2 .given .1)) (c .before .at .ensures) (c .if1 .taken))
+    sym (form-no-space (points (s .args .state .now)) (s .args .text .now) (s .args .depth) (start .ensures) (read-head .ensures) (tail3 .ensures)
+    (c .before .before .before .before .before .eval-arg2 .ensures) (ap headOf (op2 .given .1)) (ap valueGot (c .before .before .before .a2 .given .1))
+    (c .before .at .ensures) (c .if1 .taken))
 
 eval-form-add-j : (t : ℕ) → eval-form-lts.Need-add-j (eval-form-in t) (eval-form-at t) eval-form.Post
 eval-form-add-j t c =
-    let a2 = c .before .before .before .a2 in
-    let eval-arg2 = c .before .before .before .before .before .eval-arg2 in
     let tail3 = c .before .before .before .before .before .before .tail3 in
     let start = c .before .before .before .before .before .before .before .before .before .before .before .start in
     let s = c .before .before .before .before .before .before .before .before .before .before .before .before .before in
     omega (
       arith,
-      start-le (s .args .text .now),
-      start .ensures,
-      s .good .0,
-      part-within (points (s .args .state .now)) (s .args .text .now) (s .args .depth)
-          (start .result) (tail3 .ensures) (eval-arg2 .ensures) (ap valueGot (a2 .given .1)),
+      first-room (s .args .text .now) (s .good .0 .1) (start .ensures) (points (s .args .state .now)) (s .args .depth) (tail3 .ensures)
+          (c .before .before .before .before .before .eval-arg2 .ensures) (ap valueGot (c .before .before .before .a2 .given .1)),
     )
 
 eval-form-add-j-2 : (t : ℕ) → eval-form-lts.Need-add-j-2 (eval-form-in t) (eval-form-at t) eval-form.Post
 eval-form-add-j-2 t c =
-    let a2 = c .before .before .before .a2 in
-    let eval-arg2 = c .before .before .before .before .before .eval-arg2 in
     let tail3 = c .before .before .before .before .before .before .tail3 in
     let start = c .before .before .before .before .before .before .before .before .before .before .before .start in
     let s = c .before .before .before .before .before .before .before .before .before .before .before .before .before in
     omega (
       arith,
-      start-le (s .args .text .now),
-      start .ensures,
-      s .good .0,
-      part-within (points (s .args .state .now)) (s .args .text .now) (s .args .depth)
-          (start .result) (tail3 .ensures) (eval-arg2 .ensures) (ap valueGot (a2 .given .1)),
+      first-room (s .args .text .now) (s .good .0 .1) (start .ensures) (points (s .args .state .now)) (s .args .depth) (tail3 .ensures)
+          (c .before .before .before .before .before .eval-arg2 .ensures) (ap valueGot (c .before .before .before .a2 .given .1)),
     )
 
 eval-form-sub-eval-arg : (t : ℕ) → eval-form-lts.Need-sub-eval-arg (eval-form-in t) (eval-form-at t) eval-form.Post
 eval-form-sub-eval-arg t c =
-    let a2 = c .before .before .before .a2 in
     let start = c .before .before .before .before .before .before .before .before .before .before .before .start in
     let s = c .before .before .before .before .before .before .before .before .before .before .before .before .before in
-    omega (arith, byte-lt (s .args .text .now) (start .result + a2 .given .0 .1 .0) (omega (arith, c .before .at .ensures, c .if1 .left)))
+    omega (arith, byte-lt (s .args .text .now) (start .result + c .before .before .before .a2 .given .0 .1 .0) (omega (arith, c .before .at .ensures, c .if1 .left)))
 
 eval-form-part-eval-arg-start : (t : ℕ) → eval-form-lts.Need-part-eval-arg-start (eval-form-in t) (eval-form-at t) eval-form.Post
-eval-form-part-eval-arg-start t c =
-    let a2 = c .before .before .before .a2 in
-    let start = c .before .before .before .before .before .before .before .before .before .before .before .start in
-    let s = c .before .before .before .before .before .before .before .before .before .before .before .before .before in
-    omega (arith, byte-lt (s .args .text .now) (start .result + a2 .given .0 .1 .0) (omega (arith, c .before .at .ensures, c .if1 .left)))
+eval-form-part-eval-arg-start t c = omega (arith, eval-form-sub-eval-arg t c)
 
 eval-form-part-eval-arg-end : (t : ℕ) → eval-form-lts.Need-part-eval-arg-end (eval-form-in t) (eval-form-at t) eval-form.Post
-eval-form-part-eval-arg-end t c =
-    let a2 = c .before .before .before .a2 in
-    let start = c .before .before .before .before .before .before .before .before .before .before .before .start in
-    let s = c .before .before .before .before .before .before .before .before .before .before .before .before .before in
-    omega (arith, byte-lt (s .args .text .now) (start .result + a2 .given .0 .1 .0) (omega (arith, c .before .at .ensures, c .if1 .left)))
+eval-form-part-eval-arg-end t c = omega (arith, eval-form-sub-eval-arg t c)
 
 eval-form-eval-arg-requires-3 : (t : ℕ) → eval-form-lts.Need-eval-arg-requires-3 (eval-form-in t) (eval-form-at t) eval-form.Post
 eval-form-eval-arg-requires-3 t c κs = search needs
@@ -326,19 +268,16 @@ eval-form-enum-known-b t c = search needs
 
 eval-form-add-closed-3 : (t : ℕ) → eval-form-lts.Need-add-closed-3 (eval-form-in t) (eval-form-at t) eval-form.Post
 eval-form-add-closed-3 t c =
-    let eval-arg3 = c .before .before .before .eval-arg3 in
-    let if1 = c .before .before .before .before .before .if1 in
     let at = c .before .before .before .before .before .before .at in
     let a2 = c .before .before .before .before .before .before .before .before .a2 in
     let start = c .before .before .before .before .before .before .before .before .before .before .before .before .before .before .before .before .start in
     let s = c .before .before .before .before .before .before .before .before .before .before .before .before .before .before .before .before .before .before in
     omega (
       arith,
-      s .good .0,
-      byte-lt (s .args .text .now) (start .result + a2 .given .0 .1 .0) (omega (arith, at .ensures, if1 .left)),
-      part-within
-          (points (s .args .state .now)) (s .args .text .now) (s .args .depth) (start .result + a2 .given .0 .1 .0 + 1)
-          (rest-is (s .args .text .now) (start .result + a2 .given .0 .1 .0 + 1)) (eval-arg3 .ensures) (ap valueGot (c .before .b .given .1)),
+      second-room (s .args .text .now) (s .good .0 .1) (start .result + a2 .given .0 .1 .0)
+          (omega (arith, at .ensures, c .before .before .before .before .before .if1 .left)) (points (s .args .state .now)) (s .args .depth)
+          (rest-is (s .args .text .now) (start .result + a2 .given .0 .1 .0 + 1)) (c .before .before .before .eval-arg3 .ensures)
+          (ap valueGot (c .before .b .given .1)),
     )
 
 eval-form-two-requires : (t : ℕ) → eval-form-lts.Need-two-requires (eval-form-in t) (eval-form-at t) eval-form.Post
@@ -346,8 +285,6 @@ eval-form-two-requires t c κs = search needs
 
 eval-form-closed-requires-3 : (t : ℕ) → eval-form-lts.Need-closed-requires-3 (eval-form-in t) (eval-form-at t) eval-form.Post
 eval-form-closed-requires-3 t c κs =
-    let b = c .before .before .b in
-    let eval-arg3 = c .before .before .before .before .eval-arg3 in
     let if1 = c .before .before .before .before .before .before .if1 in
     let at = c .before .before .before .before .before .before .before .at in
     let a2 = c .before .before .before .before .before .before .before .before .before .a2 in
@@ -355,11 +292,9 @@ eval-form-closed-requires-3 t c κs =
     let s = c .before .before .before .before .before .before .before .before .before .before .before .before .before .before .before .before .before .before .before in
     omega (
       arith,
-      s .good .0,
-      byte-lt (s .args .text .now) (start .result + a2 .given .0 .1 .0) (omega (arith, at .ensures, if1 .left)),
-      part-within
-          (points (s .args .state .now)) (s .args .text .now) (s .args .depth) (start .result + a2 .given .0 .1 .0 + 1)
-          (rest-is (s .args .text .now) (start .result + a2 .given .0 .1 .0 + 1)) (eval-arg3 .ensures) (ap valueGot (b .given .1)),
+      second-room (s .args .text .now) (s .good .0 .1) (start .result + a2 .given .0 .1 .0) (omega (arith, at .ensures, if1 .left))
+          (points (s .args .state .now)) (s .args .depth) (rest-is (s .args .text .now) (start .result + a2 .given .0 .1 .0 + 1))
+          (c .before .before .before .before .eval-arg3 .ensures) (ap valueGot (c .before .before .b .given .1)),
     )
 
 eval-form-enum-told-4 : (t : ℕ) → eval-form-lts.Need-enum-told-4 (eval-form-in t) (eval-form-at t) eval-form.Post
@@ -374,7 +309,6 @@ eval-form-enum-told-6 t c = search needs
 eval-form-returns-2 : (t : ℕ) → eval-form-lts.Need-returns-2 (eval-form-in t) (eval-form-at t) eval-form.Post
 eval-form-returns-2 t c =
     let r = c .before .before .before .r in
-    let read-register = c .before .before .before .before .before .read-register in
     let tail = c .before .before .before .before .before .before .tail in
     let enum-told = c .before .before .before .before .before .before .before .enum-told in
     let read-head = c .before .before .before .before .before .before .before .before .before .read-head in
@@ -382,48 +316,42 @@ eval-form-returns-2 t c =
     let s = c .before .before .before .before .before .before .before .before .before .before .before .before in
     c .closed .ensures ∙ ap (λ (v : Res ℤ). closed (s .args .text .now) (start .result + r .given .0 .1 .0) v) (ap ok
     (toZ-ofZ (fit (getD (s .args .state .now) (r .given .0 .0) (pos 0)) (c .before .t25 .given)))) ∙ sym (form-register (points (s .args .state .now))
-    (s .args .text .now) (s .args .depth) (start .ensures) (read-head .ensures) (tail .ensures) (read-register .ensures) (ap headOf (enum-told .given .1))
-    (ap registerOf (r .given .1)))
+    (s .args .text .now) (s .args .depth) (start .ensures) (read-head .ensures) (tail .ensures) (c .before .before .before .before .before .read-register .ensures)
+    (ap headOf (enum-told .given .1)) (ap registerOf (r .given .1)))
 
 eval-form-returns-3 : (t : ℕ) → eval-form-lts.Need-returns-3 (eval-form-in t) (eval-form-at t) eval-form.Post
 eval-form-returns-3 t c =
-    let read-register = c .before .before .read-register in
-    let tail = c .before .before .before .tail in
-    let enum-told = c .before .before .before .before .enum-told in
     let read-head = c .before .before .before .before .before .before .read-head in
     let start = c .before .before .before .before .before .before .before .start in
     let s = c .before .before .before .before .before .before .before .before .before in
-    sym (form-no-register (points (s .args .state .now)) (s .args .text .now) (s .args .depth) (start .ensures) (read-head .ensures) (tail .ensures)
-    (read-register .ensures) (ap headOf (enum-told .given .1)) (ap registerOf (c .enum-told2 .given .1)))
+    sym (form-no-register (points (s .args .state .now)) (s .args .text .now) (s .args .depth) (start .ensures) (read-head .ensures)
+    (c .before .before .before .tail .ensures) (c .before .before .read-register .ensures) (ap headOf (c .before .before .before .before .enum-told .given .1))
+    (ap registerOf (c .enum-told2 .given .1)))
 
 eval-form-returns-4 : (t : ℕ) → eval-form-lts.Need-returns-4 (eval-form-in t) (eval-form-at t) eval-form.Post
 eval-form-returns-4 t c =
     let a = c .before .before .before .a in
-    let eval-arg = c .before .before .before .before .before .eval-arg in
     let tail2 = c .before .before .before .before .before .before .tail2 in
     let op = c .before .before .before .before .before .before .before .before .op in
     let read-head = c .before .before .before .before .before .before .before .before .before .before .read-head in
     let start = c .before .before .before .before .before .before .before .before .before .before .before .start in
     let s = c .before .before .before .before .before .before .before .before .before .before .before .before .before in
     c .closed2 .ensures ∙ ap (λ (v : Res ℤ). closed (s .args .text .now) (start .result + a .given .0 .1 .0) v) (c .before .one .ensures) ∙ sym (form-one
-    (points (s .args .state .now)) (s .args .text .now) (s .args .depth) (start .ensures) (read-head .ensures) (tail2 .ensures) (eval-arg .ensures)
-    (ap headOf (op .given .1)) (ap valueGot (a .given .1)))
+    (points (s .args .state .now)) (s .args .text .now) (s .args .depth) (start .ensures) (read-head .ensures) (tail2 .ensures)
+    (c .before .before .before .before .before .eval-arg .ensures) (ap headOf (op .given .1)) (ap valueGot (a .given .1)))
 
 eval-form-returns-5 : (t : ℕ) → eval-form-lts.Need-returns-5 (eval-form-in t) (eval-form-at t) eval-form.Post
 eval-form-returns-5 t c =
-    let eval-arg = c .before .before .eval-arg in
-    let tail2 = c .before .before .before .tail2 in
-    let op = c .before .before .before .before .before .op in
     let read-head = c .before .before .before .before .before .before .before .read-head in
     let start = c .before .before .before .before .before .before .before .before .start in
     let s = c .before .before .before .before .before .before .before .before .before .before in
-    sym (form-one-bad (points (s .args .state .now)) (s .args .text .now) (s .args .depth) (start .ensures) (read-head .ensures) (tail2 .ensures) (eval-arg .ensures)
-    (ap headOf (op .given .1)) (ap valueGot (c .enum-told3 .given .1)))
+    sym (form-one-bad (points (s .args .state .now)) (s .args .text .now) (s .args .depth) (start .ensures) (read-head .ensures)
+    (c .before .before .before .tail2 .ensures) (c .before .before .eval-arg .ensures) (ap headOf (c .before .before .before .before .before .op .given .1))
+    (ap valueGot (c .enum-told3 .given .1)))
 
 eval-form-returns-6 : (t : ℕ) → eval-form-lts.Need-returns-6 (eval-form-in t) (eval-form-at t) eval-form.Post
 eval-form-returns-6 t c =
     let b = c .before .before .before .b in
-    let eval-arg3 = c .before .before .before .before .before .eval-arg3 in
     let if1 = c .before .before .before .before .before .before .before .if1 in
     let at = c .before .before .before .before .before .before .before .before .at in
     let a2 = c .before .before .before .before .before .before .before .before .before .before .a2 in
@@ -436,13 +364,10 @@ eval-form-returns-6 t c =
     c .closed3 .ensures ∙ ap (λ (v : Res ℤ). closed (s .args .text .now) ((start .result + a2 .given .0 .1 .0 + 1) + b .given .0 .1 .0) v) (c .before .two .ensures) ∙
     sym (form-two (points (s .args .state .now)) (s .args .text .now) (s .args .depth) (start .ensures) (read-head .ensures) (tail3 .ensures) (eval-arg2 .ensures)
     (ap headOf (op2 .given .1)) (ap valueGot (a2 .given .1)) (at .ensures) (if1 .left) (rest-is (s .args .text .now) (start .result + a2 .given .0 .1 .0 + 1))
-    (eval-arg3 .ensures) (ap valueGot (b .given .1)))
+    (c .before .before .before .before .before .eval-arg3 .ensures) (ap valueGot (b .given .1)))
 
 eval-form-returns-7 : (t : ℕ) → eval-form-lts.Need-returns-7 (eval-form-in t) (eval-form-at t) eval-form.Post
 eval-form-returns-7 t c =
-    let eval-arg3 = c .before .before .eval-arg3 in
-    let if1 = c .before .before .before .before .if1 in
-    let at = c .before .before .before .before .before .at in
     let a2 = c .before .before .before .before .before .before .before .a2 in
     let eval-arg2 = c .before .before .before .before .before .before .before .before .before .eval-arg2 in
     let tail3 = c .before .before .before .before .before .before .before .before .before .before .tail3 in
@@ -451,26 +376,23 @@ eval-form-returns-7 t c =
     let start = c .before .before .before .before .before .before .before .before .before .before .before .before .before .before .before .start in
     let s = c .before .before .before .before .before .before .before .before .before .before .before .before .before .before .before .before .before in
     sym (form-second-bad (points (s .args .state .now)) (s .args .text .now) (s .args .depth) (start .ensures) (read-head .ensures) (tail3 .ensures) (eval-arg2 .ensures)
-    (ap headOf (op2 .given .1)) (ap valueGot (a2 .given .1)) (at .ensures) (if1 .left) (rest-is (s .args .text .now) (start .result + a2 .given .0 .1 .0 + 1))
-    (eval-arg3 .ensures) (ap valueGot (c .enum-told4 .given .1)))
+    (ap headOf (op2 .given .1)) (ap valueGot (a2 .given .1)) (c .before .before .before .before .before .at .ensures) (c .before .before .before .before .if1 .left)
+    (rest-is (s .args .text .now) (start .result + a2 .given .0 .1 .0 + 1)) (c .before .before .eval-arg3 .ensures) (ap valueGot (c .enum-told4 .given .1)))
 
 eval-form-returns-8 : (t : ℕ) → eval-form-lts.Need-returns-8 (eval-form-in t) (eval-form-at t) eval-form.Post
 eval-form-returns-8 t c =
-    let eval-arg2 = c .before .before .eval-arg2 in
-    let tail3 = c .before .before .before .tail3 in
-    let op2 = c .before .before .before .before .before .op2 in
     let read-head = c .before .before .before .before .before .before .before .read-head in
     let start = c .before .before .before .before .before .before .before .before .start in
     let s = c .before .before .before .before .before .before .before .before .before .before in
-    sym (form-two-bad (points (s .args .state .now)) (s .args .text .now) (s .args .depth) (start .ensures) (read-head .ensures) (tail3 .ensures) (eval-arg2 .ensures)
-    (ap headOf (op2 .given .1)) (ap valueGot (c .enum-told5 .given .1)))
+    sym (form-two-bad (points (s .args .state .now)) (s .args .text .now) (s .args .depth) (start .ensures) (read-head .ensures)
+    (c .before .before .before .tail3 .ensures) (c .before .before .eval-arg2 .ensures) (ap headOf (c .before .before .before .before .before .op2 .given .1))
+    (ap valueGot (c .enum-told5 .given .1)))
 
 eval-form-returns-9 : (t : ℕ) → eval-form-lts.Need-returns-9 (eval-form-in t) (eval-form-at t) eval-form.Post
 eval-form-returns-9 t c =
-    let read-head = c .before .before .read-head in
-    let start = c .before .before .before .start in
     let s = c .before .before .before .before .before in
-    sym (form-none (points (s .args .state .now)) (s .args .text .now) (s .args .depth) (start .ensures) (read-head .ensures) (ap headOf (c .enum-told6 .given .1)))
+    sym (form-none (points (s .args .state .now)) (s .args .text .now) (s .args .depth) (c .before .before .before .start .ensures)
+    (c .before .before .read-head .ensures) (ap headOf (c .enum-told6 .given .1)))
 
 pub +eval-arg+eval-form-spec : {M : Type 1} → statement M
 +eval-arg+eval-form-spec = close μ-eval-arg μ-eval-form (λ t. eval-arg-lts.spec (eval-arg-in t) (eval-arg-at t) eval-arg.Post

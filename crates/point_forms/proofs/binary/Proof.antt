@@ -100,18 +100,16 @@ returns-3 c =
 returns-4 : tie.Need-returns-4
 unfolding point2
 returns-4 c =
-    let enum-told4 = c .before .before .enum-told4 in
     let s = c .before .before .before .before in
     c .divided .ensures ∙ ap (λ (m : Option ℤ). orStop zeroDivisor m) (c .before .div .ensures ∙ (λ i. quotient (toZ-ofZ (s .fits .x) i) (toZ-ofZ (s .fits .y) i))) ∙ rw
-    (enum-told4 .given .1)
+    (c .before .before .enum-told4 .given .1)
 
 returns-5 : tie.Need-returns-5
 unfolding point2
 returns-5 c =
-    let enum-told5 = c .before .before .enum-told5 in
     let s = c .before .before .before .before in
     c .divided2 .ensures ∙ ap (λ (m : Option ℤ). orStop zeroDivisor m) (c .before .rem .ensures ∙ (λ i. remainder (toZ-ofZ (s .fits .x) i) (toZ-ofZ (s .fits .y) i))) ∙
-    rw (enum-told5 .given .1)
+    rw (c .before .before .enum-told5 .given .1)
 
 returns-6 : tie.Need-returns-6
 unfolding point2

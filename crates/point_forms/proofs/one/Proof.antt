@@ -23,9 +23,8 @@ returns : tie.Need-returns
 unfolding with1 bind
 returns c =
     let a = c .before .before .a in
-    let s = c .before .before .before .before in
     let e : rd (a .given .0 .0) ≡ a .given .0 .0 = search needs in
-    ap ok (toZ-ofZ (fit (c .unary .result) (c .unary .ok)) ∙ c .unary .ensures ∙ ap (point1 (op1Of (s .args .op))) e) ∙ rw (a .given .1)
+    ap ok (toZ-ofZ (fit (c .unary .result) (c .unary .ok)) ∙ c .unary .ensures ∙ ap (point1 (op1Of (c .before .before .before .before .args .op))) e) ∙ rw (a .given .1)
 
 returns-2 : tie.Need-returns-2
 unfolding with1 bind

@@ -20,17 +20,12 @@ enum-told c = search needs
 
 returns : tie.Need-returns
 returns c =
-    let eval-arg = c .before .before .before .eval-arg in
-    let tail = c .before .before .before .before .tail in
     let s = c .before .before .before .before .before .before in
-    sym (ap putValue (sym (eval-arg .ensures ∙ ap (arg (points (s .args .state .now)) 7) (tail .ensures)) ∙ ap valueGot (c .before .v .given .1)))
+    sym (ap putValue (sym (c .before .before .before .eval-arg .ensures ∙ ap (arg (points (s .args .state .now)) 7) (c .before .before .before .before .tail .ensures)) ∙
+    ap valueGot (c .before .v .given .1)))
 
 returns-2 : tie.Need-returns-2
-returns-2 c =
-    let eval-arg = c .before .before .eval-arg in
-    let tail = c .before .before .before .tail in
-    let s = c .before .before .before .before .before in
-    sym (ap putValue (sym (eval-arg .ensures ∙ ap (arg (points (s .args .state .now)) 7) (tail .ensures)) ∙ ap valueGot (c .enum-told .given .1)))
+returns-2 c = sym (ap putValue (sym (c .before .before .eval-arg .ensures ∙ ap (arg (points (c .before .before .before .before .before .args .state .now)) 7) (c .before .before .before .tail .ensures)) ∙ ap valueGot (c .enum-told .given .1)))
 
 pub value-at-spec : {M : Type 1} → statement M
 value-at-spec =

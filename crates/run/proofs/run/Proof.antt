@@ -16,11 +16,11 @@ enum-known-n c = search needs
 
 work-requires : tie.Need-work-requires
 work-requires c κs =
-    let n = c .before .before .n in
-    let judge-text = c .before .before .before .before .judge-text in
-    let if1 = c .before .before .before .before .before .if1 in
-    let s = c .before .before .before .before .before .before .before in
-    (if1 .left, fine-sheet (s .args .text .now) (judge-text .ensures .answer-is) (n .given .1))
+    let s = c .before .before .before .before .before .before .before in (
+      c .before .before .before .before .before .if1 .left,
+      fine-sheet (s .args .text .now) (c .before .before .before .before .judge-text .ensures .answer-is)
+          (c .before .before .n .given .1),
+    )
 
 enum-known-k : tie.Need-enum-known-k
 enum-known-k c = search needs
@@ -37,10 +37,8 @@ returns-2 c =
 
 returns-3 : tie.Need-returns-3
 returns-3 c =
-    let judge-text = c .before .before .before .judge-text in
-    let if1 = c .before .before .before .before .if1 in
     let s = c .before .before .before .before .before .before in
-    ran-refused (s .args .text .now) (s .args .lent .now) (if1 .left) (judge-text .ensures .answer-is) (c .before .k .given .1)
+    ran-refused (s .args .text .now) (s .args .lent .now) (c .before .before .before .before .if1 .left) (c .before .before .before .judge-text .ensures .answer-is) (c .before .k .given .1)
 
 pub run-spec : {M : Type 1} → statement M
 run-spec =

@@ -48,9 +48,12 @@ part-run-line-start c = omega (arith, c .line-end .ensures)
 
 part-run-line-end : tie.Need-part-run-line-end Inv-loop μ-loop
 part-run-line-end c =
-    let m = c .before .before in
     let s = c .before .before .before .before .before .before .before .before in
-    omega (arith, end-lt (s .args .text .now) (m .loop .at) (c .line-end .ensures) (c .before .loop-test .taken) (m .loop .inv .0 .walk .ended))
+    omega (
+      arith,
+      end-lt (s .args .text .now) (c .before .before .loop .at) (c .line-end .ensures) (c .before .loop-test .taken)
+          (c .before .before .loop .inv .0 .walk .ended),
+    )
 
 run-line-requires : tie.Need-run-line-requires Inv-loop μ-loop
 run-line-requires c κs = search needs
@@ -60,19 +63,15 @@ enum-known-step c = search needs
 
 slice-aggregate-copy-front-2 : tie.Need-slice-aggregate-copy-front-2 Inv-loop μ-loop
 slice-aggregate-copy-front-2 c =
-    let step = c .before .before .before .step in
-    let run-line = c .before .before .before .before .before .run-line in
     let line-end = c .before .before .before .before .before .before .before .before .before .line-end in
     let loop-test = c .before .before .before .before .before .before .before .before .before .before .loop-test in
     let m = c .before .before .before .before .before .before .before .before .before .before .before in
     let s = c .before .before .before .before .before .before .before .before .before .before .before .before .before .before .before .before .before in
     sym (stop-size (s .args .text .now) (s .args .lent .now) (m .loop .state) (s .args .count) (m .loop .n) (m .loop .at) (m .loop .inv .0) (loop-test .taken)
-    (line-end .ensures) (m .loop .inv .2) (run-line .ensures) (step .given .1))
+    (line-end .ensures) (m .loop .inv .2) (c .before .before .before .before .before .run-line .ensures) (c .before .before .before .step .given .1))
 
 copy-front-requires-2 : tie.Need-copy-front-requires-2 Inv-loop μ-loop
 copy-front-requires-2 c κs =
-    let step = c .before .before .before .step in
-    let run-line = c .before .before .before .before .before .run-line in
     let line-end = c .before .before .before .before .before .before .before .before .before .line-end in
     let loop-test = c .before .before .before .before .before .before .before .before .before .before .loop-test in
     let m = c .before .before .before .before .before .before .before .before .before .before .before in
@@ -80,9 +79,10 @@ copy-front-requires-2 c κs =
       omega (
         arith,
         stop-size (s .args .text .now) (s .args .lent .now) (m .loop .state) (s .args .count) (m .loop .n) (m .loop .at) (m .loop .inv .0) (loop-test .taken)
-            (line-end .ensures) (m .loop .inv .2) (run-line .ensures) (step .given .1),
+            (line-end .ensures) (m .loop .inv .2) (c .before .before .before .before .before .run-line .ensures) (c .before .before .before .step .given .1),
       ),
-      omega (arith, ap length (m .loop .inv .1), s .pre .0),
+      omega
+          (arith, ap length (m .loop .inv .1), s .pre .0),
     )
 
 same-length : tie.Need-same-length Inv-loop μ-loop
@@ -124,13 +124,12 @@ loop-less c =
 
 loop-again : tie.Need-loop-again Inv-loop μ-loop
 loop-again c =
-    let run-line = c .before .before .run-line in
     let line-end = c .before .before .before .before .before .before .line-end in
     let loop-test = c .before .before .before .before .before .before .before .loop-test in
     let m = c .before .before .before .before .before .before .before .before in
     let s = c .before .before .before .before .before .before .before .before .before .before .before .before .before .before in (
       running-next (s .args .text .now) (s .args .lent .now) (m .loop .state) (s .args .count) (m .loop .n) (m .loop .at) (m .loop .inv .0) (loop-test .taken)
-          (line-end .ensures) (m .loop .inv .2) (run-line .ensures) (c .enum-told .given .1),
+          (line-end .ensures) (m .loop .inv .2) (c .before .before .run-line .ensures) (c .enum-told .given .1),
       m .loop .inv .1,
       m .loop .inv .2,
     )

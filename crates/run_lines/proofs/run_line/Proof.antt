@@ -33,10 +33,9 @@ within-requires c κs = search needs
 
 take-requires : tie.Need-take-requires
 take-requires c κs =
-    let r = c .before .before .before .before .r in
     let read-line = c .before .before .before .before .before .before .read-line in
     let s = c .before .before .before .before .before .before .before .before in
-    in-there (s .args .lent .now) (s .args .state .now) (s .args .text .now) (read-line .result) (read-line .ensures) (r .given .1)
+    in-there (s .args .lent .now) (s .args .state .now) (s .args .text .now) (read-line .result) (read-line .ensures) (c .before .before .before .before .r .given .1)
 
 go-if-requires : tie.Need-go-if-requires
 go-if-requires c κs = search needs
@@ -86,16 +85,14 @@ enum-known-k-2 c = search needs
 
 returns : tie.Need-returns
 returns c =
-    let within₀ = c .before .before .before .within in
-    let x = c .before .before .before .before .x in
     let r = c .before .before .before .before .before .before .r in
     let read-line = c .before .before .before .before .before .before .before .before .read-line in
     let s = c .before .before .before .before .before .before .before .before .before .before in
     let el : rd (r .given .0 .1 .0) ≡ r .given .0 .1 .0 = search needs in
     let eh : rd (r .given .0 .1 .1 .0) ≡ r .given .0 .1 .1 .0 = search needs in
-    let ex = toZ-ofZ (fit _ (x .given)) in
-    in-steps (s .args .lent .now) (s .args .state .now) (s .args .text .now) (read-line .result) (read-line .ensures) (r .given .1) ex (within₀ .ensures ∙
-    (λ i. within (el i) (ex i) (eh i))) (c .before .take .ensures) (c .go-if .ensures)
+    let ex = toZ-ofZ (fit _ (c .before .before .before .before .x .given)) in
+    in-steps (s .args .lent .now) (s .args .state .now) (s .args .text .now) (read-line .result) (read-line .ensures) (r .given .1) ex (c .before .before .before .within .ensures
+    ∙ (λ i. within (el i) (ex i) (eh i))) (c .before .take .ensures) (c .go-if .ensures)
 
 returns-2 : tie.Need-returns-2
 returns-2 c =
@@ -119,13 +116,12 @@ returns-3 c =
 
 returns-4 : tie.Need-returns-4
 returns-4 c =
-    let within-arg = c .before .before .within-arg in
     let r3 = c .before .before .before .before .r3 in
     let read-line = c .before .before .before .before .before .before .read-line in
     let s = c .before .before .before .before .before .before .before .before in
     let el : rd (r3 .given .0 .1 .0) ≡ r3 .given .0 .1 .0 = search needs in
     let eh : rd (r3 .given .0 .1 .1 .0) ≡ r3 .given .0 .1 .1 .0 = search needs in
-    let ex = toZ-ofZ (fit _ (within-arg .given)) in
+    let ex = toZ-ofZ (fit _ (c .before .before .within-arg .given)) in
     hold-steps (s .args .lent .now) (s .args .state .now) (s .args .text .now) (read-line .result) (read-line .ensures) (r3 .given .1) (c .before .within2 .ensures ∙
     (λ i. within (el i) (ex i) (eh i))) (c .go-if2 .ensures)
 

@@ -10,8 +10,8 @@ use Rattle.laws.proofs.Machine.{rd}
 use Rattle.laws.proofs.Fusion.{register-below}
 use Rattle.literals.specs.Answer.{registerOf}
 use Rattle.forms.specs.Answer.{headOf}
-use Rattle.literals.proofs.Within.{byte-lt, rest-is, register-part}
-use Rattle.forms.proofs.Within.{start-le, part-within}
+use Rattle.literals.proofs.Within.{byte-lt, rest-is}
+use Rattle.forms.proofs.Within.{register-room, first-room, second-room}
 use Rattle.forms.proofs.Forms.{arg-none, arg-form, form-none, form-register, form-no-register, form-one, form-one-bad, form-two-bad, form-no-space, form-two, form-second-bad}
 use Rattle.set_values.specs.Value.{valueOf, values}
 use Rattle.set_values.specs.declared.SetV.{SetV}
@@ -97,40 +97,34 @@ set-arg-unread-requires-2 t c κs = search needs
 
 set-arg-returns : (t : ℕ) → set-arg-lts.Need-returns (set-arg-in t) (set-arg-at t) set-arg.Post
 set-arg-returns t c =
-    let if1 = c .before .before .if1 in
-    let at = c .before .before .before .at in
     let s = c .before .before .before .before .before in
-    c .unread .ensures ∙ sym (arg-none (values (s .args .regs .now)) (s .args .text .now) (s .args .depth) (at .ensures) (if1 .taken) (c .before .if2 .taken))
+    c .unread .ensures ∙ sym (arg-none (values (s .args .regs .now)) (s .args .text .now) (s .args .depth) (c .before .before .before .at .ensures)
+    (c .before .before .if1 .taken) (c .before .if2 .taken))
 
 set-arg-same-length : (t : ℕ) → set-arg-lts.Need-same-length (set-arg-in t) (set-arg-at t) set-arg.Post
 set-arg-same-length t c = search needs
 
 set-arg-returns-2 : (t : ℕ) → set-arg-lts.Need-returns-2 (set-arg-in t) (set-arg-at t) set-arg.Post
 set-arg-returns-2 t c =
-    let if2 = c .before .before .before .if2 in
-    let if1 = c .before .before .before .before .if1 in
-    let at = c .before .before .before .before .before .at in
     let s = c .before .before .before .before .before .before .before in
-    c .before .set-form .ensures ∙ sym (arg-form (values (s .args .regs .now)) (s .args .text .now) (s .args .depth) (at .ensures) (if1 .taken) (if2 .left))
+    c .before .set-form .ensures ∙ sym (arg-form (values (s .args .regs .now)) (s .args .text .now) (s .args .depth)
+    (c .before .before .before .before .before .at .ensures) (c .before .before .before .before .if1 .taken) (c .before .before .before .if2 .left))
 
 set-arg-returns-3 : (t : ℕ) → set-arg-lts.Need-returns-3 (set-arg-in t) (set-arg-at t) set-arg.Post
 set-arg-returns-3 t c =
     let z = c .before .before .before .z in
-    let read-literal = c .before .before .before .before .before .read-literal in
     let if1 = c .before .before .before .before .before .before .if1 in
     let at = c .before .before .before .before .before .before .before .at in
     let s = c .before .before .before .before .before .before .before .before .before in
     let e : rd (z .given .0 .0) ≡ z .given .0 .0 = search needs in
-    c .taken .ensures ∙ literal-value (s .args .regs .now) (s .args .text .now) (s .args .depth) (at .ensures) (if1 .left) (read-literal .ensures) (z .given .1) (c .before .one-interval .ensures
-    ∙ (λ i. valueOf (ok (span (e i) (e i)))))
+    c .taken .ensures ∙ literal-value (s .args .regs .now) (s .args .text .now) (s .args .depth) (at .ensures) (if1 .left) (c .before .before .before .before .before .read-literal .ensures)
+    (z .given .1) (c .before .one-interval .ensures ∙ (λ i. valueOf (ok (span (e i) (e i)))))
 
 set-arg-returns-4 : (t : ℕ) → set-arg-lts.Need-returns-4 (set-arg-in t) (set-arg-at t) set-arg.Post
 set-arg-returns-4 t c =
-    let read-literal = c .before .before .before .read-literal in
-    let if1 = c .before .before .before .before .if1 in
-    let at = c .before .before .before .before .before .at in
     let s = c .before .before .before .before .before .before .before in
-    c .unread2 .ensures ∙ literal-unread (s .args .regs .now) (s .args .text .now) (s .args .depth) (at .ensures) (if1 .left) (read-literal .ensures) (c .before .enum-told .given .1)
+    c .unread2 .ensures ∙ literal-unread (s .args .regs .now) (s .args .text .now) (s .args .depth) (c .before .before .before .before .before .at .ensures) (c .before .before .before .before .if1 .left)
+    (c .before .before .before .read-literal .ensures) (c .before .enum-told .given .1)
 
 set-form-start-requires : (t : ℕ) → set-form-lts.Need-start-requires (set-form-in t) (set-form-at t) set-form.Post
 set-form-start-requires t c κs = search needs
@@ -152,40 +146,30 @@ set-form-enum-known-r t c = search needs
 
 set-form-add-closed : (t : ℕ) → set-form-lts.Need-add-closed (set-form-in t) (set-form-at t) set-form.Post
 set-form-add-closed t c =
-    let read-register = c .before .before .before .read-register in
-    let tail = c .before .before .before .before .tail in
     let start = c .before .before .before .before .before .before .before .before .start in
     let s = c .before .before .before .before .before .before .before .before .before .before in
     omega (
       arith,
-      start-le (s .args .text .now),
-      start .ensures,
-      s .good .0,
-      register-part (s .args .text .now) (start .result) (tail .ensures)
-          (sym (read-register .ensures) ∙ ap registerOf (c .before .r .given .1)),
+      register-room (s .args .text .now) (s .good .0 .1) (start .ensures) (c .before .before .before .before .tail .ensures)
+          (sym (c .before .before .before .read-register .ensures) ∙ ap registerOf (c .before .r .given .1)),
     )
 
 set-form-register-set-requires : (t : ℕ) → set-form-lts.Need-register-set-requires (set-form-in t) (set-form-at t) set-form.Post
 set-form-register-set-requires t c κs =
-    let read-register = c .before .before .before .read-register in
-    let tail = c .before .before .before .before .tail in
-    let s = c .before .before .before .before .before .before .before .before .before .before in
-    (s .pre .1 .0, register-below (tail .result .now) (sym (read-register .ensures) ∙ ap registerOf (c .before .r .given .1)))
+    let s = c .before .before .before .before .before .before .before .before .before .before in (
+      s .pre .1 .0,
+      register-below (c .before .before .before .before .tail .result .now)
+          (sym (c .before .before .before .read-register .ensures) ∙ ap registerOf (c .before .r .given .1)),
+    )
 
 set-form-closed-requires : (t : ℕ) → set-form-lts.Need-closed-requires (set-form-in t) (set-form-at t) set-form.Post
 set-form-closed-requires t c κs =
-    let r = c .before .before .r in
-    let read-register = c .before .before .before .before .read-register in
-    let tail = c .before .before .before .before .before .tail in
     let start = c .before .before .before .before .before .before .before .before .before .start in
     let s = c .before .before .before .before .before .before .before .before .before .before .before in
     omega (
       arith,
-      start-le (s .args .text .now),
-      start .ensures,
-      s .good .0,
-      register-part (s .args .text .now) (start .result) (tail .ensures)
-          (sym (read-register .ensures) ∙ ap registerOf (r .given .1)),
+      register-room (s .args .text .now) (s .good .0 .1) (start .ensures) (c .before .before .before .before .before .tail .ensures)
+          (sym (c .before .before .before .before .read-register .ensures) ∙ ap registerOf (c .before .before .r .given .1)),
     )
 
 set-form-enum-told-2 : (t : ℕ) → set-form-lts.Need-enum-told-2 (set-form-in t) (set-form-at t) set-form.Post
@@ -209,13 +193,13 @@ set-form-same-length t c = c .before .before .before .set-arg .kept .1 .1 .1 .0
 set-form-returns : (t : ℕ) → set-form-lts.Need-returns (set-form-in t) (set-form-at t) set-form.Post
 set-form-returns t c =
     let set-arg = c .before .before .before .set-arg in
-    let tail2 = c .before .before .before .before .before .tail2 in
     let op = c .before .before .before .before .before .before .before .op in
     let read-head = c .before .before .before .before .before .before .before .before .before .read-head in
     let start = c .before .before .before .before .before .before .before .before .before .before .start in
     let s = c .before .before .before .before .before .before .before .before .before .before .before .before in
     (read-bad (set-arg .result) (c .if1 .taken)) ∙ sym (form-one-bad (values (s .args .regs .now)) (s .args .text .now) (s .args .depth) (start .ensures)
-    (read-head .ensures) (tail2 .ensures) (set-arg .ensures) (ap headOf (op .given .1)) (read-bad (set-arg .result) (c .if1 .taken)))
+    (read-head .ensures) (c .before .before .before .before .before .tail2 .ensures) (set-arg .ensures) (ap headOf (op .given .1))
+    (read-bad (set-arg .result) (c .if1 .taken)))
 
 set-form-add-closed-2 : (t : ℕ) → set-form-lts.Need-add-closed-2 (set-form-in t) (set-form-at t) set-form.Post
 set-form-add-closed-2 t c =
@@ -225,38 +209,30 @@ set-form-add-closed-2 t c =
     let s = c .before .before .before .before .before .before .before .before .before .before .before .before .before in
     omega (
       arith,
-      start-le (s .args .text .now),
-      start .ensures,
-      s .good .0,
-      part-within (values (s .args .regs .now)) (s .args .text .now) (s .args .depth)
-          (start .result) (tail2 .ensures) (set-arg .ensures) (read-good (set-arg .result) (c .before .if1 .left)),
+      first-room (s .args .text .now) (s .good .0 .1) (start .ensures) (values (s .args .regs .now)) (s .args .depth) (tail2 .ensures)
+          (set-arg .ensures) (read-good (set-arg .result) (c .before .if1 .left)),
     )
 
 set-form-apply1-requires : (t : ℕ) → set-form-lts.Need-apply1-requires (set-form-in t) (set-form-at t) set-form.Post
 set-form-apply1-requires t c κs =
-    let if1 = c .before .before .if1 in
     let set-arg = c .before .before .before .before .before .set-arg in
     let tail2 = c .before .before .before .before .before .before .before .tail2 in
     let s = c .before .before .before .before .before .before .before .before .before .before .before .before .before .before in (
-      part-sound (s .pre .1 .0) (s .args .depth) (tail2 .result .now) (set-arg .ensures) (read-good (set-arg .result) (if1 .left)),
-      let k = set-arg .kept .1 .1 .1 .0 in
-          let h = s .pre .1 .1 in omega arith,
+      part-sound (s .pre .1 .0) (s .args .depth) (tail2 .result .now) (set-arg .ensures) (read-good (set-arg .result) (c .before .before .if1 .left)),
+      let k = set-arg .kept .1 .1 .1 .0
+          in let h = s .pre .1 .1 in omega arith,
     )
 
 set-form-closed-requires-2 : (t : ℕ) → set-form-lts.Need-closed-requires-2 (set-form-in t) (set-form-at t) set-form.Post
 set-form-closed-requires-2 t c κs =
-    let if1 = c .before .before .before .before .if1 in
     let set-arg = c .before .before .before .before .before .before .before .set-arg in
     let tail2 = c .before .before .before .before .before .before .before .before .before .tail2 in
     let start = c .before .before .before .before .before .before .before .before .before .before .before .before .before .before .start in
     let s = c .before .before .before .before .before .before .before .before .before .before .before .before .before .before .before .before in
     omega (
       arith,
-      start-le (s .args .text .now),
-      start .ensures,
-      s .good .0,
-      part-within (values (s .args .regs .now)) (s .args .text .now) (s .args .depth)
-          (start .result) (tail2 .ensures) (set-arg .ensures) (read-good (set-arg .result) (if1 .left)),
+      first-room (s .args .text .now) (s .good .0 .1) (start .ensures) (values (s .args .regs .now)) (s .args .depth) (tail2 .ensures)
+          (set-arg .ensures) (read-good (set-arg .result) (c .before .before .before .before .if1 .left)),
     )
 
 set-form-enum-known-op-2 : (t : ℕ) → set-form-lts.Need-enum-known-op-2 (set-form-in t) (set-form-at t) set-form.Post
@@ -274,27 +250,23 @@ set-form-same-length-2 t c = c .before .before .before .set-arg2 .kept .1 .1 .1 
 set-form-returns-2 : (t : ℕ) → set-form-lts.Need-returns-2 (set-form-in t) (set-form-at t) set-form.Post
 set-form-returns-2 t c =
     let set-arg2 = c .before .before .before .set-arg2 in
-    let tail3 = c .before .before .before .before .before .tail3 in
     let op2 = c .before .before .before .before .before .before .before .op2 in
     let read-head = c .before .before .before .before .before .before .before .before .before .read-head in
     let start = c .before .before .before .before .before .before .before .before .before .before .start in
     let s = c .before .before .before .before .before .before .before .before .before .before .before .before in
     (read-bad (set-arg2 .result) (c .if2 .taken)) ∙ sym (form-two-bad (values (s .args .regs .now)) (s .args .text .now) (s .args .depth) (start .ensures)
-    (read-head .ensures) (tail3 .ensures) (set-arg2 .ensures) (ap headOf (op2 .given .1)) (read-bad (set-arg2 .result) (c .if2 .taken)))
+    (read-head .ensures) (c .before .before .before .before .before .tail3 .ensures) (set-arg2 .ensures) (ap headOf (op2 .given .1))
+    (read-bad (set-arg2 .result) (c .if2 .taken)))
 
 set-form-add-at : (t : ℕ) → set-form-lts.Need-add-at (set-form-in t) (set-form-at t) set-form.Post
 set-form-add-at t c =
     let set-arg2 = c .before .before .before .set-arg2 in
-    let tail3 = c .before .before .before .before .before .tail3 in
     let start = c .before .before .before .before .before .before .before .before .before .before .start in
     let s = c .before .before .before .before .before .before .before .before .before .before .before .before in
     omega (
       arith,
-      start-le (s .args .text .now),
-      start .ensures,
-      s .good .0,
-      part-within (values (s .args .regs .now)) (s .args .text .now) (s .args .depth)
-          (start .result) (tail3 .ensures) (set-arg2 .ensures) (read-good (set-arg2 .result) (c .if2 .left)),
+      first-room (s .args .text .now) (s .good .0 .1) (start .ensures) (values (s .args .regs .now)) (s .args .depth)
+          (c .before .before .before .before .before .tail3 .ensures) (set-arg2 .ensures) (read-good (set-arg2 .result) (c .if2 .left)),
     )
 
 set-form-at-requires : (t : ℕ) → set-form-lts.Need-at-requires (set-form-in t) (set-form-at t) set-form.Post
@@ -308,8 +280,6 @@ set-form-same-length-3 t c = c .before .before .before .before .before .before .
 
 set-form-returns-3 : (t : ℕ) → set-form-lts.Need-returns-3 (set-form-in t) (set-form-at t) set-form.Post
 set-form-returns-3 t c =
-    let at = c .before .before .at in
-    let if2 = c .before .before .before .if2 in
     let set-arg2 = c .before .before .before .before .before .before .set-arg2 in
     let tail3 = c .before .before .before .before .before .before .before .before .tail3 in
     let op2 = c .before .before .before .before .before .before .before .before .before .before .op2 in
@@ -317,60 +287,48 @@ set-form-returns-3 t c =
     let start = c .before .before .before .before .before .before .before .before .before .before .before .before .before .start in
     let s = c .before .before .before .before .before .before .before .before .before .before .before .before .before .before .before in
     c .unread2 .ensures ∙ sym (form-no-space (values (s .args .regs .now)) (s .args .text .now) (s .args .depth) (start .ensures) (read-head .ensures) (tail3 .ensures)
-    (set-arg2 .ensures) (ap headOf (op2 .given .1)) (read-good (set-arg2 .result) (if2 .left)) (at .ensures) (c .before .if3 .taken))
+    (set-arg2 .ensures) (ap headOf (op2 .given .1)) (read-good (set-arg2 .result) (c .before .before .before .if2 .left)) (c .before .before .at .ensures)
+    (c .before .if3 .taken))
 
 set-form-add-j : (t : ℕ) → set-form-lts.Need-add-j (set-form-in t) (set-form-at t) set-form.Post
 set-form-add-j t c =
-    let if2 = c .before .before .if2 in
     let set-arg2 = c .before .before .before .before .before .set-arg2 in
     let tail3 = c .before .before .before .before .before .before .before .tail3 in
     let start = c .before .before .before .before .before .before .before .before .before .before .before .before .start in
     let s = c .before .before .before .before .before .before .before .before .before .before .before .before .before .before in
     omega (
       arith,
-      start-le (s .args .text .now),
-      start .ensures,
-      s .good .0,
-      part-within (values (s .args .regs .now)) (s .args .text .now) (s .args .depth)
-          (start .result) (tail3 .ensures) (set-arg2 .ensures) (read-good (set-arg2 .result) (if2 .left)),
+      first-room (s .args .text .now) (s .good .0 .1) (start .ensures) (values (s .args .regs .now)) (s .args .depth) (tail3 .ensures)
+          (set-arg2 .ensures) (read-good (set-arg2 .result) (c .before .before .if2 .left)),
     )
 
 set-form-add-j-2 : (t : ℕ) → set-form-lts.Need-add-j-2 (set-form-in t) (set-form-at t) set-form.Post
 set-form-add-j-2 t c =
-    let if2 = c .before .before .if2 in
     let set-arg2 = c .before .before .before .before .before .set-arg2 in
     let tail3 = c .before .before .before .before .before .before .before .tail3 in
     let start = c .before .before .before .before .before .before .before .before .before .before .before .before .start in
     let s = c .before .before .before .before .before .before .before .before .before .before .before .before .before .before in
     omega (
       arith,
-      start-le (s .args .text .now),
-      start .ensures,
-      s .good .0,
-      part-within (values (s .args .regs .now)) (s .args .text .now) (s .args .depth)
-          (start .result) (tail3 .ensures) (set-arg2 .ensures) (read-good (set-arg2 .result) (if2 .left)),
+      first-room (s .args .text .now) (s .good .0 .1) (start .ensures) (values (s .args .regs .now)) (s .args .depth) (tail3 .ensures)
+          (set-arg2 .ensures) (read-good (set-arg2 .result) (c .before .before .if2 .left)),
     )
 
 set-form-sub-set-arg : (t : ℕ) → set-form-lts.Need-sub-set-arg (set-form-in t) (set-form-at t) set-form.Post
 set-form-sub-set-arg t c =
-    let set-arg2 = c .before .before .before .before .before .set-arg2 in
     let start = c .before .before .before .before .before .before .before .before .before .before .before .before .start in
     let s = c .before .before .before .before .before .before .before .before .before .before .before .before .before .before in
-    omega (arith, byte-lt (s .args .text .now) (start .result + set-arg2 .result .next) (omega (arith, c .before .at .ensures, c .if3 .left)))
+    omega (
+      arith,
+      byte-lt (s .args .text .now) (start .result + c .before .before .before .before .before .set-arg2 .result .next)
+          (omega (arith, c .before .at .ensures, c .if3 .left)),
+    )
 
 set-form-part-set-arg-start : (t : ℕ) → set-form-lts.Need-part-set-arg-start (set-form-in t) (set-form-at t) set-form.Post
-set-form-part-set-arg-start t c =
-    let set-arg2 = c .before .before .before .before .before .set-arg2 in
-    let start = c .before .before .before .before .before .before .before .before .before .before .before .before .start in
-    let s = c .before .before .before .before .before .before .before .before .before .before .before .before .before .before in
-    omega (arith, byte-lt (s .args .text .now) (start .result + set-arg2 .result .next) (omega (arith, c .before .at .ensures, c .if3 .left)))
+set-form-part-set-arg-start t c = omega (arith, set-form-sub-set-arg t c)
 
 set-form-part-set-arg-end : (t : ℕ) → set-form-lts.Need-part-set-arg-end (set-form-in t) (set-form-at t) set-form.Post
-set-form-part-set-arg-end t c =
-    let set-arg2 = c .before .before .before .before .before .set-arg2 in
-    let start = c .before .before .before .before .before .before .before .before .before .before .before .before .start in
-    let s = c .before .before .before .before .before .before .before .before .before .before .before .before .before .before in
-    omega (arith, byte-lt (s .args .text .now) (start .result + set-arg2 .result .next) (omega (arith, c .before .at .ensures, c .if3 .left)))
+set-form-part-set-arg-end t c = omega (arith, set-form-sub-set-arg t c)
 
 set-form-set-arg-requires-3 : (t : ℕ) → set-form-lts.Need-set-arg-requires-3 (set-form-in t) (set-form-at t) set-form.Post
 set-form-set-arg-requires-3 t c κs =
@@ -380,9 +338,8 @@ set-form-set-arg-requires-3 t c κs =
 
 set-form-same-length-4 : (t : ℕ) → set-form-lts.Need-same-length-4 (set-form-in t) (set-form-at t) set-form.Post
 set-form-same-length-4 t c =
-    let set-arg3 = c .before .before .before .set-arg3 in
     let set-arg2 = c .before .before .before .before .before .before .before .before .before .before .before .set-arg2 in
-    set-arg3 .kept .1 .1 .1 .0 ∙ set-arg2 .kept .1 .1 .1 .0
+    c .before .before .before .set-arg3 .kept .1 .1 .1 .0 ∙ set-arg2 .kept .1 .1 .1 .0
 
 set-form-returns-4 : (t : ℕ) → set-form-lts.Need-returns-4 (set-form-in t) (set-form-at t) set-form.Post
 set-form-returns-4 t c =
@@ -402,7 +359,6 @@ set-form-returns-4 t c =
 
 set-form-add-closed-3 : (t : ℕ) → set-form-lts.Need-add-closed-3 (set-form-in t) (set-form-at t) set-form.Post
 set-form-add-closed-3 t c =
-    let if4 = c .before .before .if4 in
     let set-arg3 = c .before .before .before .before .before .set-arg3 in
     let if3 = c .before .before .before .before .before .before .before .before .if3 in
     let at = c .before .before .before .before .before .before .before .before .before .at in
@@ -413,20 +369,13 @@ set-form-add-closed-3 t c =
     let s = c .before .before .before .before .before .before .before .before .before .before .before .before .before .before .before .before .before .before .before .before .before .before in
     omega (
       arith,
-      start-le (s .args .text .now),
-      start .ensures,
-      s .good .0,
-      part-within (values (s .args .regs .now)) (s .args .text .now) (s .args .depth)
-          (start .result) (tail3 .ensures) (set-arg2 .ensures) (read-good (set-arg2 .result) (if2 .left)),
-      part-within (values (s .args .regs .now)) (s .args .text .now)
-          (s .args .depth) (start .result + set-arg2 .result .next + 1) (rest-is (s .args .text .now) (start .result + set-arg2 .result .next + 1)) (set-arg3 .ensures)
-          (read-good (set-arg3 .result) (if4 .left)),
-      byte-lt (s .args .text .now) (start .result + set-arg2 .result .next) (omega (arith, at .ensures, if3 .left)),
+      second-room (s .args .text .now) (s .good .0 .1) (start .result + set-arg2 .result .next) (omega (arith, at .ensures, if3 .left))
+          (values (s .args .regs .now)) (s .args .depth) (rest-is (s .args .text .now) (start .result + set-arg2 .result .next + 1)) (set-arg3 .ensures)
+          (read-good (set-arg3 .result) (c .before .before .if4 .left)),
     )
 
 set-form-apply2-requires : (t : ℕ) → set-form-lts.Need-apply2-requires (set-form-in t) (set-form-at t) set-form.Post
 set-form-apply2-requires t c κs =
-    let if4 = c .before .before .before .if4 in
     let set-arg3 = c .before .before .before .before .before .before .set-arg3 in
     let if2 = c .before .before .before .before .before .before .before .before .before .before .before .if2 in
     let set-arg2 = c .before .before .before .before .before .before .before .before .before .before .before .before .before .before .set-arg2 in
@@ -434,14 +383,13 @@ set-form-apply2-requires t c κs =
     let s = c .before .before .before .before .before .before .before .before .before .before .before .before .before .before .before .before .before .before .before .before .before .before .before in (
       part-sound (s .pre .1 .0) (s .args .depth) (tail3 .result .now) (set-arg2 .ensures) (read-good (set-arg2 .result) (if2 .left)),
       part-sound (s .pre .1 .0)
-          (s .args .depth) _ (set-arg3 .ensures) (read-good (set-arg3 .result) (if4 .left)),
-      let k = set-arg2 .kept .1 .1 .1 .0 in let m = set-arg3 .kept .1 .1 .1 .0 in let h
-          = s .pre .1 .1 in omega arith,
+          (s .args .depth) _ (set-arg3 .ensures) (read-good (set-arg3 .result) (c .before .before .before .if4 .left)),
+      let k = set-arg2 .kept .1 .1 .1 .0 in let m = set-arg3 .kept .1 .1 .1 .0
+          in let h = s .pre .1 .1 in omega arith,
     )
 
 set-form-closed-requires-3 : (t : ℕ) → set-form-lts.Need-closed-requires-3 (set-form-in t) (set-form-at t) set-form.Post
 set-form-closed-requires-3 t c κs =
-    let if4 = c .before .before .before .before .before .if4 in
     let set-arg3 = c .before .before .before .before .before .before .before .before .set-arg3 in
     let if3 = c .before .before .before .before .before .before .before .before .before .before .before .if3 in
     let at = c .before .before .before .before .before .before .before .before .before .before .before .before .at in
@@ -452,15 +400,9 @@ set-form-closed-requires-3 t c κs =
     let s = c .before .before .before .before .before .before .before .before .before .before .before .before .before .before .before .before .before .before .before .before .before .before .before .before .before in
     omega (
       arith,
-      start-le (s .args .text .now),
-      start .ensures,
-      s .good .0,
-      part-within (values (s .args .regs .now)) (s .args .text .now) (s .args .depth)
-          (start .result) (tail3 .ensures) (set-arg2 .ensures) (read-good (set-arg2 .result) (if2 .left)),
-      part-within (values (s .args .regs .now)) (s .args .text .now)
-          (s .args .depth) (start .result + set-arg2 .result .next + 1) (rest-is (s .args .text .now) (start .result + set-arg2 .result .next + 1)) (set-arg3 .ensures)
-          (read-good (set-arg3 .result) (if4 .left)),
-      byte-lt (s .args .text .now) (start .result + set-arg2 .result .next) (omega (arith, at .ensures, if3 .left)),
+      second-room (s .args .text .now) (s .good .0 .1) (start .result + set-arg2 .result .next) (omega (arith, at .ensures, if3 .left))
+          (values (s .args .regs .now)) (s .args .depth) (rest-is (s .args .text .now) (start .result + set-arg2 .result .next + 1)) (set-arg3 .ensures)
+          (read-good (set-arg3 .result) (c .before .before .before .before .before .if4 .left)),
     )
 
 set-form-enum-told-3 : (t : ℕ) → set-form-lts.Need-enum-told-3 (set-form-in t) (set-form-at t) set-form.Post
@@ -472,54 +414,47 @@ set-form-unread-requires-3 t c κs = search needs
 set-form-returns-5 : (t : ℕ) → set-form-lts.Need-returns-5 (set-form-in t) (set-form-at t) set-form.Post
 set-form-returns-5 t c =
     let r = c .before .before .before .r in
-    let read-register = c .before .before .before .before .before .read-register in
     let tail = c .before .before .before .before .before .before .tail in
     let enum-told = c .before .before .before .before .before .before .before .enum-told in
     let read-head = c .before .before .before .before .before .before .before .before .before .read-head in
     let start = c .before .before .before .before .before .before .before .before .before .before .start in
     let s = c .before .before .before .before .before .before .before .before .before .before .before .before in
     c .closed .ensures ∙ ap (λ (v : SetV). closed (s .args .text .now) (start .result + r .given .0 .1 .0) v) (c .before .register-set .ensures) ∙ sym (form-register
-    (values (s .args .regs .now)) (s .args .text .now) (s .args .depth) (start .ensures) (read-head .ensures) (tail .ensures) (read-register .ensures)
-    (ap headOf (enum-told .given .1)) (ap registerOf (r .given .1)))
+    (values (s .args .regs .now)) (s .args .text .now) (s .args .depth) (start .ensures) (read-head .ensures) (tail .ensures)
+    (c .before .before .before .before .before .read-register .ensures) (ap headOf (enum-told .given .1)) (ap registerOf (r .given .1)))
 
 set-form-returns-6 : (t : ℕ) → set-form-lts.Need-returns-6 (set-form-in t) (set-form-at t) set-form.Post
 set-form-returns-6 t c =
-    let read-register = c .before .before .before .read-register in
-    let tail = c .before .before .before .before .tail in
-    let enum-told = c .before .before .before .before .before .enum-told in
     let read-head = c .before .before .before .before .before .before .before .read-head in
     let start = c .before .before .before .before .before .before .before .before .start in
     let s = c .before .before .before .before .before .before .before .before .before .before in
-    c .unread .ensures ∙ sym (form-no-register (values (s .args .regs .now)) (s .args .text .now) (s .args .depth) (start .ensures) (read-head .ensures) (tail .ensures)
-    (read-register .ensures) (ap headOf (enum-told .given .1)) (ap registerOf (c .before .enum-told2 .given .1)))
+    c .unread .ensures ∙ sym (form-no-register (values (s .args .regs .now)) (s .args .text .now) (s .args .depth) (start .ensures) (read-head .ensures)
+    (c .before .before .before .before .tail .ensures) (c .before .before .before .read-register .ensures)
+    (ap headOf (c .before .before .before .before .before .enum-told .given .1)) (ap registerOf (c .before .enum-told2 .given .1)))
 
 set-form-same-length-5 : (t : ℕ) → set-form-lts.Need-same-length-5 (set-form-in t) (set-form-at t) set-form.Post
 set-form-same-length-5 t c = c .before .before .apply1 .kept .1 .1 .0 ∙ c .before .before .before .before .before .before .before .before .set-arg .kept .1 .1 .1 .0
 
 set-form-returns-7 : (t : ℕ) → set-form-lts.Need-returns-7 (set-form-in t) (set-form-at t) set-form.Post
 set-form-returns-7 t c =
-    let apply1 = c .before .before .apply1 in
-    let if1 = c .before .before .before .before .before .if1 in
     let set-arg = c .before .before .before .before .before .before .before .before .set-arg in
     let tail2 = c .before .before .before .before .before .before .before .before .before .before .tail2 in
     let op = c .before .before .before .before .before .before .before .before .before .before .before .before .op in
     let read-head = c .before .before .before .before .before .before .before .before .before .before .before .before .before .before .read-head in
     let start = c .before .before .before .before .before .before .before .before .before .before .before .before .before .before .before .start in
     let s = c .before .before .before .before .before .before .before .before .before .before .before .before .before .before .before .before .before in
-    c .closed2 .ensures ∙ ap (λ (v : SetV). closed (s .args .text .now) (start .result + set-arg .result .next) v) (apply1 .ensures) ∙ sym (form-one
+    c .closed2 .ensures ∙ ap (λ (v : SetV). closed (s .args .text .now) (start .result + set-arg .result .next) v) (c .before .before .apply1 .ensures) ∙ sym (form-one
     (values (s .args .regs .now)) (s .args .text .now) (s .args .depth) (start .ensures) (read-head .ensures) (tail2 .ensures) (set-arg .ensures)
-    (ap headOf (op .given .1)) (read-good (set-arg .result) (if1 .left)))
+    (ap headOf (op .given .1)) (read-good (set-arg .result) (c .before .before .before .before .before .if1 .left)))
 
 set-form-same-length-6 : (t : ℕ) → set-form-lts.Need-same-length-6 (set-form-in t) (set-form-at t) set-form.Post
 set-form-same-length-6 t c =
-    let apply2 = c .before .before .apply2 in
     let set-arg3 = c .before .before .before .before .before .before .before .before .before .set-arg3 in
     let set-arg2 = c .before .before .before .before .before .before .before .before .before .before .before .before .before .before .before .before .before .set-arg2 in
-    apply2 .kept .1 .1 .1 .0 ∙ set-arg3 .kept .1 .1 .1 .0 ∙ set-arg2 .kept .1 .1 .1 .0
+    c .before .before .apply2 .kept .1 .1 .1 .0 ∙ set-arg3 .kept .1 .1 .1 .0 ∙ set-arg2 .kept .1 .1 .1 .0
 
 set-form-returns-8 : (t : ℕ) → set-form-lts.Need-returns-8 (set-form-in t) (set-form-at t) set-form.Post
 set-form-returns-8 t c =
-    let apply2 = c .before .before .apply2 in
     let if4 = c .before .before .before .before .before .before .if4 in
     let set-arg3 = c .before .before .before .before .before .before .before .before .before .set-arg3 in
     let if3 = c .before .before .before .before .before .before .before .before .before .before .before .before .if3 in
@@ -531,18 +466,16 @@ set-form-returns-8 t c =
     let read-head = c .before .before .before .before .before .before .before .before .before .before .before .before .before .before .before .before .before .before .before .before .before .before .before .read-head in
     let start = c .before .before .before .before .before .before .before .before .before .before .before .before .before .before .before .before .before .before .before .before .before .before .before .before .start in
     let s = c .before .before .before .before .before .before .before .before .before .before .before .before .before .before .before .before .before .before .before .before .before .before .before .before .before .before in
-    c .closed3 .ensures ∙ ap (λ (v : SetV). closed (s .args .text .now) ((start .result + set-arg2 .result .next + 1) + set-arg3 .result .next) v) (apply2 .ensures) ∙
-    sym (form-two (values (s .args .regs .now)) (s .args .text .now) (s .args .depth) (start .ensures) (read-head .ensures) (tail3 .ensures) (set-arg2 .ensures)
+    c .closed3 .ensures ∙ ap (λ (v : SetV). closed (s .args .text .now) ((start .result + set-arg2 .result .next + 1) + set-arg3 .result .next) v) (c .before .before .apply2 .ensures)
+    ∙ sym (form-two (values (s .args .regs .now)) (s .args .text .now) (s .args .depth) (start .ensures) (read-head .ensures) (tail3 .ensures) (set-arg2 .ensures)
     (ap headOf (op2 .given .1)) (read-good (set-arg2 .result) (if2 .left)) (at .ensures) (if3 .left)
     (rest-is (s .args .text .now) (start .result + set-arg2 .result .next + 1)) (set-arg3 .ensures) (read-good (set-arg3 .result) (if4 .left)))
 
 set-form-returns-9 : (t : ℕ) → set-form-lts.Need-returns-9 (set-form-in t) (set-form-at t) set-form.Post
 set-form-returns-9 t c =
-    let read-head = c .before .before .before .read-head in
-    let start = c .before .before .before .before .start in
     let s = c .before .before .before .before .before .before in
-    c .unread3 .ensures ∙ sym (form-none (values (s .args .regs .now)) (s .args .text .now) (s .args .depth) (start .ensures) (read-head .ensures)
-    (ap headOf (c .before .enum-told3 .given .1)))
+    c .unread3 .ensures ∙ sym (form-none (values (s .args .regs .now)) (s .args .text .now) (s .args .depth) (c .before .before .before .before .start .ensures)
+    (c .before .before .before .read-head .ensures) (ap headOf (c .before .enum-told3 .given .1)))
 
 pub +set-arg+set-form-spec : {M : Type 1} → statement M
 +set-arg+set-form-spec =

@@ -19,15 +19,13 @@ unread-requires c κs = search needs
 
 returns : tie.Need-returns
 returns c =
-    let at = c .before .before .at in
     let s = c .before .before .before .before in
-    c .taken .ensures ∙ closed-here (s .args .text .now) (s .args .i) (s .args .v) (at .ensures) (c .before .if1 .taken)
+    c .taken .ensures ∙ closed-here (s .args .text .now) (s .args .i) (s .args .v) (c .before .before .at .ensures) (c .before .if1 .taken)
 
 returns-2 : tie.Need-returns-2
 returns-2 c =
-    let at = c .before .before .at in
     let s = c .before .before .before .before in
-    c .unread .ensures ∙ closed-not (s .args .text .now) (s .args .i) (s .args .v) (at .ensures) (c .before .if1 .left)
+    c .unread .ensures ∙ closed-not (s .args .text .now) (s .args .i) (s .args .v) (c .before .before .at .ensures) (c .before .if1 .left)
 
 pub closed-spec : {M : Type 1} → statement M
 closed-spec = tie.close (tie.spec at-requires add-taken taken-requires unread-requires returns returns-2)

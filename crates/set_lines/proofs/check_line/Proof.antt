@@ -28,11 +28,10 @@ one-interval-requires c κs = search needs
 
 give-requires : tie.Need-give-requires
 give-requires c κs =
-    let r = c .before .before .before .r in
-    let read-line = c .before .before .before .before .before .read-line in
     let s = c .before .before .before .before .before .before .before in (
       shown-length (s .pre .0),
-      in-there (s .args .text .now) (ap (lineFrom (s .args .text .now)) (sym (r .given .1)) ∙ read-line .ensures),
+      in-there (s .args .text .now)
+          (ap (lineFrom (s .args .text .now)) (sym (c .before .before .before .r .given .1)) ∙ c .before .before .before .before .before .read-line .ensures),
       let e = ap
           (λ (v : SetV). v .count) (c .one-interval .ensures) in omega arith,
       one-ends _ _ (c .one-interval .ensures),
@@ -63,10 +62,11 @@ enum-known-r-3 c = search needs
 
 hold-requires : tie.Need-hold-requires
 hold-requires c κs =
-    let r3 = c .before .before .r3 in
-    let read-line = c .before .before .before .before .read-line in
-    let s = c .before .before .before .before .before .before in
-    (s .pre .0, hold-there (s .args .text .now) (ap (lineFrom (s .args .text .now)) (sym (r3 .given .1)) ∙ read-line .ensures))
+    let s = c .before .before .before .before .before .before in (
+      s .pre .0,
+      hold-there (s .args .text .now)
+          (ap (lineFrom (s .args .text .now)) (sym (c .before .before .r3 .given .1)) ∙ c .before .before .before .before .read-line .ensures),
+    )
 
 enum-known-k : tie.Need-enum-known-k
 enum-known-k c = search needs
@@ -76,14 +76,13 @@ same-length c = search needs
 
 returns : tie.Need-returns
 returns c =
-    let one-interval = c .before .before .one-interval in
     let r = c .before .before .before .before .before .r in
     let read-line = c .before .before .before .before .before .before .before .read-line in
     let s = c .before .before .before .before .before .before .before .before .before in
     let el : rd (r .given .0 .1 .0) ≡ r .given .0 .1 .0 = search needs in
     let eh : rd (r .given .0 .1 .1 .0) ≡ r .given .0 .1 .1 .0 = search needs in
     in-worked (s .args .text .now) (ap (lineFrom (s .args .text .now)) (sym (r .given .1)) ∙ read-line .ensures) (c .before .give .ensures ∙ ap
-    (λ (v : SetV). given (r .given .0 .0) v (s .args .regs .now)) (one-interval .ensures ∙ (λ i. valueOf (ok (span (el i) (eh i))))))
+    (λ (v : SetV). given (r .given .0 .0) v (s .args .regs .now)) (c .before .before .one-interval .ensures ∙ (λ i. valueOf (ok (span (el i) (eh i))))))
 
 same-length-2 : tie.Need-same-length-2
 same-length-2 c = search needs
@@ -93,13 +92,11 @@ same-length-3 c = search needs
 
 returns-2 : tie.Need-returns-2
 returns-2 c =
-    let if1 = c .before .before .before .if1 in
-    let value-at = c .before .before .before .before .before .value-at in
     let r2 = c .before .before .before .before .before .before .before .before .before .r2 in
     let read-line = c .before .before .before .before .before .before .before .before .before .before .before .read-line in
     let s = c .before .before .before .before .before .before .before .before .before .before .before .before .before in
     put-worked (s .args .text .now) (r2 .given .0 .0) (r2 .given .0 .1 .0) (ap (lineFrom (s .args .text .now)) (sym (r2 .given .1)) ∙ read-line .ensures) (s .args .regs .now)
-    _ (value-at .ensures) (if1 .taken) (c .before .give2 .ensures)
+    _ (c .before .before .before .before .before .value-at .ensures) (c .before .before .before .if1 .taken) (c .before .give2 .ensures)
 
 same-length-4 : tie.Need-same-length-4
 same-length-4 c = search needs
@@ -109,12 +106,11 @@ same-length-5 c = search needs
 
 returns-3 : tie.Need-returns-3
 returns-3 c =
-    let value-at = c .before .before .value-at in
     let r2 = c .before .before .before .before .before .before .r2 in
     let read-line = c .before .before .before .before .before .before .before .before .read-line in
     let s = c .before .before .before .before .before .before .before .before .before .before in
     put-stopped (s .args .text .now) (r2 .given .0 .0) (r2 .given .0 .1 .0) (ap (lineFrom (s .args .text .now)) (sym (r2 .given .1)) ∙ read-line .ensures) (s .args .regs .now)
-    (s .args .regs .now) (value-at .ensures) (c .if1 .left) refl
+    (s .args .regs .now) (c .before .before .value-at .ensures) (c .if1 .left) refl
 
 same-length-6 : tie.Need-same-length-6
 same-length-6 c = search needs
@@ -122,18 +118,16 @@ same-length-6 c = search needs
 returns-4 : tie.Need-returns-4
 returns-4 c =
     let r3 = c .before .before .before .r3 in
-    let read-line = c .before .before .before .before .before .read-line in
     let s = c .before .before .before .before .before .before .before in
     let el : rd (r3 .given .0 .1 .0) ≡ r3 .given .0 .1 .0 = search needs in
     let eh : rd (r3 .given .0 .1 .1 .0) ≡ r3 .given .0 .1 .1 .0 = search needs in
-    hold-worked (s .args .text .now) (ap (lineFrom (s .args .text .now)) (sym (r3 .given .1)) ∙ read-line .ensures) (c .hold .ensures ∙
-    (λ i. holdNumber (inside (el i) (setIn (s .args .regs .now) (r3 .given .0 .0)) (eh i)))) refl
+    hold-worked (s .args .text .now) (ap (lineFrom (s .args .text .now)) (sym (r3 .given .1)) ∙ c .before .before .before .before .before .read-line .ensures) (c .hold .ensures
+    ∙ (λ i. holdNumber (inside (el i) (setIn (s .args .regs .now) (r3 .given .0 .0)) (eh i)))) refl
 
 returns-5 : tie.Need-returns-5
 returns-5 c =
-    let read-line = c .before .before .before .read-line in
     let s = c .before .before .before .before .before in
-    refused-worked (s .args .text .now) (ap (lineFrom (s .args .text .now)) (sym (c .before .k .given .1)) ∙ read-line .ensures) refl
+    refused-worked (s .args .text .now) (ap (lineFrom (s .args .text .now)) (sym (c .before .k .given .1)) ∙ c .before .before .before .read-line .ensures) refl
 
 pub check-line-spec : {M : Type 1} → statement M
 check-line-spec = tie.close (tie.spec read-line-requires enum-known-r one-interval-requires give-requires enum-known-r-2 value-at-requires give-requires-2 enum-known-r-3 hold-requires enum-known-k same-length returns same-length-2 same-length-3 returns-2 same-length-4 same-length-5 returns-3 same-length-6 returns-4 returns-5)

@@ -22,11 +22,10 @@ shared-slice-copy-out-result c = search needs
 
 returns : tie.Need-returns
 returns c =
-    let if12 = c .before .before .if12 in
     let s = c .before .before .before in
     let lo = toZ-ofZ (s .fits .lo) in
     let hi = toZ-ofZ (s .fits .hi) in
-    let t = rw (lo, toZ-ofZ (sfits-of (if12 .given))) at (c .before .if1 .taken) in
+    let t = rw (lo, toZ-ofZ (sfits-of (c .before .before .if12 .given))) at (c .before .if1 .taken) in
     rw (toZ-ofZ (sfits-of (c .result .given)), hi, t)
 
 returns-2 : tie.Need-returns-2

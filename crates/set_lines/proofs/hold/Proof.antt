@@ -18,13 +18,12 @@ mul-n c = omega (arith, register-count (c .before .before .pre .0) (c .before .b
 
 array-share-prefix-ends : tie.Need-array-share-prefix-ends
 array-share-prefix-ends c =
-    let register-set = c .before .before .register-set in
     let s = c .before .before .before in
     omega (
       arith,
-      register-count (s .pre .0) (s .args .r) (s .pre .1) (register-set .ensures),
+      register-count (s .pre .0) (s .args .r) (s .pre .1) (c .before .before .register-set .ensures),
       register-ends (s .pre .0) (s .args .r) (s .pre .1)
-          (register-set .ensures),
+          (c .before .before .register-set .ensures),
     )
 
 slice-aggregate-inside : tie.Need-slice-aggregate-inside
@@ -43,17 +42,15 @@ inside-requires c κs = search needs
 
 returns : tie.Need-returns
 returns c =
-    let register-set = c .before .before .before .before .before .register-set in
     let s = c .before .before .before .before .before .before in
-    hold-number (s .pre .0) (s .args .r) (s .pre .1) (register-set .ensures) (s .args .lo) (s .args .hi) (rw (toZ-ofZ (s .fits .lo), toZ-ofZ (s .fits .hi)) at
-    (c .before .inside .ensures)) (sym (ap holdNumber (c .if1 .taken)))
+    hold-number (s .pre .0) (s .args .r) (s .pre .1) (c .before .before .before .before .before .register-set .ensures) (s .args .lo) (s .args .hi) (rw
+    (toZ-ofZ (s .fits .lo), toZ-ofZ (s .fits .hi)) at (c .before .inside .ensures)) (sym (ap holdNumber (c .if1 .taken)))
 
 returns-2 : tie.Need-returns-2
 returns-2 c =
-    let register-set = c .before .before .before .before .before .register-set in
     let s = c .before .before .before .before .before .before in
-    hold-number (s .pre .0) (s .args .r) (s .pre .1) (register-set .ensures) (s .args .lo) (s .args .hi) (rw (toZ-ofZ (s .fits .lo), toZ-ofZ (s .fits .hi)) at
-    (c .before .inside .ensures)) (sym (ap holdNumber (c .if1 .left)))
+    hold-number (s .pre .0) (s .args .r) (s .pre .1) (c .before .before .before .before .before .register-set .ensures) (s .args .lo) (s .args .hi) (rw
+    (toZ-ofZ (s .fits .lo), toZ-ofZ (s .fits .hi)) at (c .before .inside .ensures)) (sym (ap holdNumber (c .if1 .left)))
 
 pub hold-spec : {M : Type 1} → statement M
 hold-spec = tie.close (tie.spec register-set-requires mul-n array-share-prefix-ends slice-aggregate-inside inside-requires returns returns-2)

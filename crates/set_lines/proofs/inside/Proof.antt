@@ -28,11 +28,10 @@ sub-if1 c = search needs
 
 returns : tie.Need-returns Inv-loop μ-loop
 returns c =
-    let m = c .before .before in
     let s = c .before .before .before in
     let e = toZ-ofZ (s .fits .lo) in
     let e′ = toZ-ofZ (s .fits .hi) in
-    sym (rw (e, e′) at (m .loop .inv .2) ∙ inside-end (s .args .lo) (s .args .s .now) (m .loop .i) (s .args .hi) (omega arith))
+    sym (rw (e, e′) at (c .before .before .loop .inv .2) ∙ inside-end (s .args .lo) (s .args .s .now) (c .before .before .loop .i) (s .args .hi) (omega arith))
 
 fits-at-requires : tie.Need-fits-at-requires Inv-loop μ-loop
 fits-at-requires c κs = search needs

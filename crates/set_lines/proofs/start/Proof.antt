@@ -39,9 +39,7 @@ loop-again : tie.Need-loop-again Inv-loop μ-loop
 loop-again c = (omega arith, ap (λ (l : List ℤ). set l (33 * c .before .loop .i) (pos 1)) (c .before .loop .inv .1) ∙ start-more (c .before .loop .i) (omega arith))
 
 same-length : tie.Need-same-length Inv-loop μ-loop
-same-length c =
-    let s = c .before .before in
-    ap length (c .before .loop .inv .1) ∙ started-length (c .before .loop .i) (c .before .loop .inv .0) ∙ sym (ap length (s .pre) ∙ length-replicate setsNeed (pos 0))
+same-length c = ap length (c .before .loop .inv .1) ∙ started-length (c .before .loop .i) (c .before .loop .inv .0) ∙ sym (ap length (c .before .before .pre) ∙ length-replicate setsNeed (pos 0))
 
 returns : tie.Need-returns Inv-loop μ-loop
 returns c = let h = c .before .loop .inv .0 in let e : c .before .loop .i ≡ 16 = omega arith in c .before .loop .inv .1 ∙ ap started e ∙ start-last

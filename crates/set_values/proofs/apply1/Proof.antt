@@ -21,15 +21,13 @@ array-share-prefix-ends c = omega (arith, count-le (c .before .before .before .b
 
 slice-aggregate-core1 : tie.Need-slice-aggregate-core1
 slice-aggregate-core1 c =
-    let if1 = c .before .before .before .if1 in
     let s = c .before .before .before .before .before in
-    sym (length-take-le (2 * s .args .a .count) (s .args .a .ends) (omega (arith, count-le (s .pre .0) (if1 .left), value-ends (s .pre .0))))
+    sym (length-take-le (2 * s .args .a .count) (s .args .a .ends) (omega (arith, count-le (s .pre .0) (c .before .before .before .if1 .left), value-ends (s .pre .0))))
 
 core1-requires : tie.Need-core1-requires
 core1-requires c κs =
-    let if1 = c .before .before .before .before .if1 in
     let s = c .before .before .before .before .before .before in
-    (argument (s .pre .0) (if1 .left), s .pre .1)
+    (argument (s .pre .0) (c .before .before .before .before .if1 .left), s .pre .1)
 
 settle-requires : tie.Need-settle-requires
 settle-requires c κs = (c .before .before .core1 .ensures .room, left-even (c .before .before .core1 .ensures))
@@ -39,10 +37,9 @@ same-length c = search needs
 
 returns-2 : tie.Need-returns-2
 returns-2 c =
-    let core1 = c .before .before .before .core1 in
     let if1 = c .before .before .before .before .before .before .before .before .if1 in
     let s = c .before .before .before .before .before .before .before .before .before .before in
-    answer1-is (op1Of (s .args .op)) (s .pre .0) (if1 .left) (core1 .ensures) (c .settle .ensures)
+    answer1-is (op1Of (s .args .op)) (s .pre .0) (if1 .left) (c .before .before .before .core1 .ensures) (c .settle .ensures)
 
 pub apply1-spec : {M : Type 1} → statement M
 apply1-spec = tie.close (tie.spec returns mul-n array-share-prefix-ends slice-aggregate-core1 core1-requires settle-requires same-length returns-2)

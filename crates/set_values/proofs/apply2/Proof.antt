@@ -15,9 +15,8 @@ returns c = answer2-left (op2Of (c .before .before .args .op)) (c .before .befor
 
 returns-2 : tie.Need-returns-2
 returns-2 c =
-    let if1 = c .before .before .if1 in
     let s = c .before .before .before .before in
-    answer2-right (op2Of (s .args .op)) (s .pre .0) (s .pre .1) (if1 .left) (c .if2 .taken)
+    answer2-right (op2Of (s .args .op)) (s .pre .0) (s .pre .1) (c .before .before .if1 .left) (c .if2 .taken)
 
 mul-n : tie.Need-mul-n
 mul-n c = omega (arith, count-le (c .before .before .before .before .before .pre .0) (c .before .before .before .if1 .left))
@@ -39,9 +38,8 @@ slice-aggregate-core2 c =
 
 array-share-prefix-right : tie.Need-array-share-prefix-right
 array-share-prefix-right c =
-    let if2 = c .before .before .before .before .before .if2 in
     let s = c .before .before .before .before .before .before .before .before .before in
-    omega (arith, count-le (s .pre .1) (if2 .left), value-ends (s .pre .1))
+    omega (arith, count-le (s .pre .1) (c .before .before .before .before .before .if2 .left), value-ends (s .pre .1))
 
 slice-aggregate-core2-2 : tie.Need-slice-aggregate-core2-2
 slice-aggregate-core2-2 c =
@@ -64,11 +62,10 @@ same-length c = search needs
 
 returns-3 : tie.Need-returns-3
 returns-3 c =
-    let core2 = c .before .before .before .core2 in
     let if2 = c .before .before .before .before .before .before .before .before .before .before .before .if2 in
     let if1 = c .before .before .before .before .before .before .before .before .before .before .before .before .before .if1 in
     let s = c .before .before .before .before .before .before .before .before .before .before .before .before .before .before .before in
-    answer2-is (op2Of (s .args .op)) (s .pre .0) (s .pre .1) (if1 .left) (if2 .left) (core2 .ensures) (c .settle .ensures)
+    answer2-is (op2Of (s .args .op)) (s .pre .0) (s .pre .1) (if1 .left) (if2 .left) (c .before .before .before .core2 .ensures) (c .settle .ensures)
 
 pub apply2-spec : {M : Type 1} → statement M
 apply2-spec = tie.close (tie.spec returns returns-2 mul-n mul-m array-share-prefix-left slice-aggregate-core2 array-share-prefix-right slice-aggregate-core2-2 core2-requires settle-requires same-length returns-3)

@@ -39,16 +39,13 @@ copy-front-requires c κs = (ends-room (c .before .before .before .pre .0) (c .b
 
 amount-requires : tie.Need-amount-requires
 amount-requires c κs =
-    let n = c .before .before .before .before .n in
     let s = c .before .before .before .before .before in
-    count-positive (s .pre .0) (s .args .r) (s .pre .1) (toZ-ofZ (sfits-of (n .given)))
+    count-positive (s .pre .0) (s .args .r) (s .pre .1) (toZ-ofZ (sfits-of (c .before .before .before .before .n .given)))
 
 returns : tie.Need-returns
 returns c =
-    let copy-front = c .before .before .copy-front in
-    let n = c .before .before .before .before .before .n in
     let s = c .before .before .before .before .before .before in
-    slot-value (s .pre .0) (s .args .r) (s .pre .1) (toZ-ofZ (sfits-of (n .given))) (c .amount .ensures) (copy-front .ensures)
+    slot-value (s .pre .0) (s .args .r) (s .pre .1) (toZ-ofZ (sfits-of (c .before .before .before .before .before .n .given))) (c .amount .ensures) (c .before .before .copy-front .ensures)
 
 pub register-set-spec : {M : Type 1} → statement M
 register-set-spec = tie.close (tie.spec mul-k mul-n shared-slice-copy-out-n add-j slice-aggregate-copy-front mul-copy-front sub-copy-front part-copy-front-start part-copy-front-end copy-front-requires amount-requires returns)

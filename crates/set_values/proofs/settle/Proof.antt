@@ -30,9 +30,8 @@ copy-front-requires c κs = search needs
 
 returns-3 : tie.Need-returns-3
 returns-3 c =
-    let if2 = c .before .before .before .if2 in
     let s = c .before .before .before .before .before in
-    settle-fine (s .args .work .now) (s .args .count) (s .args .flag) (s .pre .0) (s .pre .1) (omega arith) (if2 .left) (c .before .copy-front .ensures)
+    settle-fine (s .args .work .now) (s .args .count) (s .args .flag) (s .pre .0) (s .pre .1) (omega arith) (c .before .before .before .if2 .left) (c .before .copy-front .ensures)
 
 pub settle-spec : {M : Type 1} → statement M
 settle-spec = tie.close (tie.spec stopped-requires returns stopped-requires-2 returns-2 slice-aggregate-copy-front copy-front-requires returns-3)

@@ -45,9 +45,8 @@ same-length c = search needs
 
 returns : tie.Need-returns Inv-loop μ-loop
 returns c =
-    let m = c .before .before in
     let s = c .before .before .before in
-    crossing-end-r (m .loop .inv .2) (s .pre .1) (s .pre .2) (omega (arith, c .if1 .taken, m .loop .inv .1))
+    crossing-end-r (c .before .before .loop .inv .2) (s .pre .1) (s .pre .2) (omega (arith, c .if1 .taken, c .before .before .loop .inv .1))
 
 mul-s : tie.Need-mul-s Inv-loop μ-loop
 mul-s c = search needs
@@ -63,9 +62,8 @@ mul-e c = search needs
 
 shared-slice-copy-out-e : tie.Need-shared-slice-copy-out-e Inv-loop μ-loop
 shared-slice-copy-out-e c =
-    let loop-test = c .before .before .loop-test in
     let s = c .before .before .before in
-    omega (arith, cross-pair-l (s .loop .inv .2) (omega (arith, loop-test .taken, s .loop .inv .0)))
+    omega (arith, cross-pair-l (s .loop .inv .2) (omega (arith, c .before .before .loop-test .taken, s .loop .inv .0)))
 
 mul-c : tie.Need-mul-c Inv-loop μ-loop
 mul-c c = search needs
@@ -81,9 +79,8 @@ mul-d c = search needs
 
 shared-slice-copy-out-d : tie.Need-shared-slice-copy-out-d Inv-loop μ-loop
 shared-slice-copy-out-d c =
-    let if1 = c .before .before .before .if1 in
     let s = c .before .before .before .before .before in
-    omega (arith, cross-pair-r (s .loop .inv .2) (omega (arith, if1 .left, s .loop .inv .1)))
+    omega (arith, cross-pair-r (s .loop .inv .2) (omega (arith, c .before .before .before .if1 .left, s .loop .inv .1)))
 
 greater-requires : tie.Need-greater-requires Inv-loop μ-loop
 greater-requires c κs = search needs

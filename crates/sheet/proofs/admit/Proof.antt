@@ -9,19 +9,16 @@ enum-known-l c = search needs
 
 returns : tie.Need-returns
 returns c =
-    let l = c .before .before .l in
     let s = c .before .before .before .before in
-    in-late (s .args .l) (s .args .other) (s .args .taken .now) (l .given .1) (c .if1 .taken)
+    in-late (s .args .l) (s .args .other) (s .args .taken .now) (c .before .before .l .given .1) (c .if1 .taken)
 
 element-copy-out-if2 : tie.Need-element-copy-out-if2
 element-copy-out-if2 c = in-register (c .before .before .l .given .1) (c .before .before .before .before .pre)
 
 returns-2 : tie.Need-returns-2
 returns-2 c =
-    let if1 = c .before .before .if1 in
-    let l = c .before .before .before .before .l in
     let s = c .before .before .before .before .before .before in
-    in-again (s .args .l) (s .args .other) (s .args .taken .now) (l .given .1) (if1 .left) (c .if2 .taken)
+    in-again (s .args .l) (s .args .other) (s .args .taken .now) (c .before .before .before .before .l .given .1) (c .before .before .if1 .left) (c .if2 .taken)
 
 element-write-taken : tie.Need-element-write-taken
 element-write-taken c = in-register (c .before .before .before .before .l .given .1) (c .before .before .before .before .before .before .pre)
@@ -37,10 +34,8 @@ enum-known-l-2 c = search needs
 
 returns-3 : tie.Need-returns-3
 returns-3 c =
-    let if1 = c .before .before .if1 in
-    let l = c .before .before .before .before .l in
     let s = c .before .before .before .before .before .before in
-    in-first (s .args .l) (s .args .other) (s .args .taken .now) (l .given .1) (if1 .left) (c .if2 .left)
+    in-first (s .args .l) (s .args .other) (s .args .taken .now) (c .before .before .before .before .l .given .1) (c .before .before .if1 .left) (c .if2 .left)
 
 returns-4 : tie.Need-returns-4
 returns-4 c = put-admits (c .before .before .args .l) (c .before .before .args .other) (c .before .before .args .taken .now) (c .enum-told .given .1)

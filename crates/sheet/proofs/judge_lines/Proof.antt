@@ -27,10 +27,7 @@ part-read-line-start : tie.Need-part-read-line-start Inv-loop μ-loop
 part-read-line-start c = omega (arith, c .line-end .ensures)
 
 part-read-line-end : tie.Need-part-read-line-end Inv-loop μ-loop
-part-read-line-end c =
-    let m = c .before .before in
-    let s = c .before .before .before .before in
-    omega (arith, end-lt (s .args .text .now) (m .loop .at) (c .line-end .ensures) (c .before .loop-test .taken) (m .loop .inv .ended))
+part-read-line-end c = omega (arith, end-lt (c .before .before .before .before .args .text .now) (c .before .before .loop .at) (c .line-end .ensures) (c .before .loop-test .taken) (c .before .before .loop .inv .ended))
 
 read-line-requires : tie.Need-read-line-requires Inv-loop μ-loop
 read-line-requires c κs = search needs
@@ -44,12 +41,11 @@ admit-requires c κs = register-there _ (c .before .read-line .result) (c .befor
 returns : tie.Need-returns Inv-loop μ-loop
 returns c =
     let read-line = c .before .before .before .read-line in
-    let line-end = c .before .before .before .before .before .line-end in
     let loop-test = c .before .before .before .before .before .before .loop-test in
     let m = c .before .before .before .before .before .before .before in
     let s = c .before .before .before .before .before .before .before .before .before in
-    going-stop (s .args .text .now) (m .loop .taken) (m .loop .other) (m .loop .n) (m .loop .at) (m .loop .inv) (loop-test .taken) (line-end .ensures) (read-line .result)
-    (read-line .ensures) (c .before .admit .ensures .0) (c .if1 .taken)
+    going-stop (s .args .text .now) (m .loop .taken) (m .loop .other) (m .loop .n) (m .loop .at) (m .loop .inv) (loop-test .taken) (c .before .before .before .before .before .line-end .ensures)
+    (read-line .result) (read-line .ensures) (c .before .admit .ensures .0) (c .if1 .taken)
 
 is-act-requires : tie.Need-is-act-requires Inv-loop μ-loop
 is-act-requires c κs = search needs
@@ -72,20 +68,16 @@ loop-less c =
 
 loop-again : tie.Need-loop-again Inv-loop μ-loop
 loop-again c =
-    let admit = c .before .before .admit in
     let read-line = c .before .before .before .before .read-line in
     let line-end = c .before .before .before .before .before .before .line-end in
     let loop-test = c .before .before .before .before .before .before .before .loop-test in
     let m = c .before .before .before .before .before .before .before .before in
     let s = c .before .before .before .before .before .before .before .before .before .before in
     going-next (s .args .text .now) (m .loop .taken) (m .loop .other) (m .loop .n) (m .loop .at) (m .loop .inv) (loop-test .taken) (line-end .ensures) (read-line .result)
-    (read-line .ensures) (admit .ensures .0) (c .before .if1 .left) (admit .ensures .1) (c .is-act .ensures)
+    (read-line .ensures) (c .before .before .admit .ensures .0) (c .before .if1 .left) (c .before .before .admit .ensures .1) (c .is-act .ensures)
 
 returns-2 : tie.Need-returns-2 Inv-loop μ-loop
-returns-2 c =
-    let m = c .before in
-    let s = c .before .before .before in
-    going-done (s .args .text .now) (m .loop .taken) (m .loop .other) (m .loop .n) (m .loop .at) (m .loop .inv) (omega arith)
+returns-2 c = going-done (c .before .before .before .args .text .now) (c .before .loop .taken) (c .before .loop .other) (c .before .loop .n) (c .before .loop .at) (c .before .loop .inv) (omega arith)
 
 pub judge-lines-spec : {M : Type 1} → statement M
 judge-lines-spec =

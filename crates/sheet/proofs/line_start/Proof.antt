@@ -38,9 +38,10 @@ loop-less c = omega arith
 
 loop-again : tie.Need-loop-again Inv-loop μ-loop
 loop-again c =
-    let m = c .before .before .before in
-    let s = c .before .before .before .before .before in
-    (start-next (s .args .text .now) (m .loop .i) (m .loop .at) (m .loop .inv .0) (c .before .line-end .ensures) (c .if1 .left), omega arith)
+    let m = c .before .before .before in (
+      start-next (c .before .before .before .before .before .args .text .now) (m .loop .i) (m .loop .at) (m .loop .inv .0) (c .before .line-end .ensures) (c .if1 .left),
+      omega arith,
+    )
 
 returns-2 : tie.Need-returns-2 Inv-loop μ-loop
 returns-2 c = let e : c .before .loop .i ≡ c .before .before .before .args .k = omega arith in rw (← e) (c .before .loop .inv .0)

@@ -29,12 +29,11 @@ returns-2 : tie.Need-returns-2
 returns-2 c =
     let a = c .before .before .before .before .before .args in
     let t = a .text .now in
-    let at = c .before .before .line-start .result in
-    let b = c .before .before .line-start .ensures in
+    let l = c .before .before .line-start in
     let e = c .before .line-end .ensures in
     record {
-      place = part-there t at e (a .n) (c .before .before .before .if1 .left) b (c .if2 .taken);
-      bytes = line-there t (a .n - 1) at b e (c .if2 .taken) ∙ line-some t (a .n) (c .before .before .before .if1 .left);
+      place = part-there t (l .result) e (a .n) (c .before .before .before .if1 .left) (l .ensures) (c .if2 .taken);
+      bytes = line-there t (a .n - 1) (l .result) (l .ensures) e (c .if2 .taken) ∙ line-some t (a .n) (c .before .before .before .if1 .left);
       inside = omega (arith, e, c .if2 .taken);
     }
 
@@ -42,12 +41,11 @@ returns-3 : tie.Need-returns-3
 returns-3 c =
     let a = c .before .before .before .before .before .args in
     let t = a .text .now in
-    let at = c .before .before .line-start .result in
-    let b = c .before .before .line-start .ensures in
+    let l = c .before .before .line-start in
     let e = c .before .line-end .ensures in
     record {
-      place = part-none t at e (a .n) (c .before .before .before .if1 .left) b (c .if2 .left);
-      bytes = line-none t (a .n - 1) at b e (c .if2 .left) ∙ line-some t (a .n) (c .before .before .before .if1 .left);
+      place = part-none t (l .result) e (a .n) (c .before .before .before .if1 .left) (l .ensures) (c .if2 .left);
+      bytes = line-none t (a .n - 1) (l .result) (l .ensures) e (c .if2 .left) ∙ line-some t (a .n) (c .before .before .before .if1 .left);
       inside = omega arith;
     }
 

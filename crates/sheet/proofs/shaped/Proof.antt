@@ -23,30 +23,27 @@ line-end-requires c κs = search needs
 
 returns : tie.Need-returns Inv-loop μ-loop
 returns c =
-    let loop-test = c .before .before .loop-test in
     let m = c .before .before .before in
-    let s = c .before .before .before .before .before in
-    sym (m .loop .inv .2 ∙ shape-unended (s .args .text .now) (m .loop .n) (m .loop .at) (c .before .line-end .ensures) (loop-test .taken) (c .if1 .taken))
+    sym (m .loop .inv .2 ∙ shape-unended (c .before .before .before .before .before .args .text .now) (m .loop .n) (m .loop .at) (c .before .line-end .ensures)
+    (c .before .before .loop-test .taken) (c .if1 .taken))
 
 sub-if2 : tie.Need-sub-if2 Inv-loop μ-loop
 sub-if2 c = omega (arith, c .before .line-end .ensures)
 
 returns-2 : tie.Need-returns-2 Inv-loop μ-loop
 returns-2 c =
-    let line-end = c .before .before .line-end in
-    let loop-test = c .before .before .before .loop-test in
     let m = c .before .before .before .before in
     let s = c .before .before .before .before .before .before in
-    sym (m .loop .inv .2 ∙ shape-wide (s .args .text .now) (m .loop .n) (m .loop .at) (line-end .ensures) (loop-test .taken)
-    (omega (arith, end-le (s .args .text .now) (m .loop .at) (line-end .ensures) (m .loop .inv .0))) (c .if2 .taken))
+    sym (m .loop .inv .2 ∙ shape-wide (s .args .text .now) (m .loop .n) (m .loop .at) (c .before .before .line-end .ensures)
+    (c .before .before .before .loop-test .taken) (omega (arith, end-le (s .args .text .now) (m .loop .at) (c .before .before .line-end .ensures) (m .loop .inv .0)))
+    (c .if2 .taken))
 
 returns-3 : tie.Need-returns-3 Inv-loop μ-loop
 returns-3 c =
     let line-end = c .before .before .before .line-end in
-    let loop-test = c .before .before .before .before .loop-test in
     let m = c .before .before .before .before .before in
     let s = c .before .before .before .before .before .before .before in
-    sym (m .loop .inv .2 ∙ shape-long (s .args .text .now) (m .loop .n) (m .loop .at) (line-end .ensures) (loop-test .taken)
+    sym (m .loop .inv .2 ∙ shape-long (s .args .text .now) (m .loop .n) (m .loop .at) (line-end .ensures) (c .before .before .before .before .loop-test .taken)
     (omega (arith, end-le (s .args .text .now) (m .loop .at) (line-end .ensures) (m .loop .inv .0))) (c .if3 .taken))
 
 add-n : tie.Need-add-n Inv-loop μ-loop
@@ -54,10 +51,9 @@ add-n c = omega arith
 
 add-at : tie.Need-add-at Inv-loop μ-loop
 add-at c =
-    let line-end = c .before .before .before .line-end in
     let m = c .before .before .before .before .before in
     let s = c .before .before .before .before .before .before .before in
-    omega (arith, end-le (s .args .text .now) (m .loop .at) (line-end .ensures) (m .loop .inv .0))
+    omega (arith, end-le (s .args .text .now) (m .loop .at) (c .before .before .before .line-end .ensures) (m .loop .inv .0))
 
 loop-less : tie.Need-loop-less Inv-loop μ-loop
 loop-less c =
@@ -69,14 +65,13 @@ loop-less c =
 loop-again : tie.Need-loop-again Inv-loop μ-loop
 loop-again c =
     let line-end = c .before .before .before .line-end in
-    let loop-test = c .before .before .before .before .loop-test in
     let m = c .before .before .before .before .before in
     let s = c .before .before .before .before .before .before .before in (
       omega (arith, end-le (s .args .text .now) (m .loop .at) (line-end .ensures) (m .loop .inv .0)),
       omega arith,
       m .loop .inv .2 ∙ shape-next (s .args .text .now)
-          (m .loop .n) (m .loop .at) (line-end .ensures) (loop-test .taken) (omega (arith, end-le (s .args .text .now) (m .loop .at) (line-end .ensures) (m .loop .inv .0)))
-          (c .before .if2 .left),
+          (m .loop .n) (m .loop .at) (line-end .ensures) (c .before .before .before .before .loop-test .taken)
+          (omega (arith, end-le (s .args .text .now) (m .loop .at) (line-end .ensures) (m .loop .inv .0))) (c .before .if2 .left),
     )
 
 returns-4 : tie.Need-returns-4 Inv-loop μ-loop

@@ -21,12 +21,10 @@ enum-known-n c = search needs
 
 check-sheet-requires : tie.Need-check-sheet-requires
 check-sheet-requires c κs =
-    let n = c .before .before .before .n in
-    let judge-text = c .before .before .before .before .before .judge-text in
     let if2 = c .before .before .before .before .before .before .if2 in
     let if1 = c .before .before .before .before .before .before .before .if1 in
     let s = c .before .before .before .before .before .before .before .before .before in
-    (fine-sheet (s .args .text .now) (judge-text .ensures .answer-is) (n .given .1), if1 .left, if2 .left)
+    (fine-sheet (s .args .text .now) (c .before .before .before .before .before .judge-text .ensures .answer-is) (c .before .before .before .n .given .1), if1 .left, if2 .left)
 
 enum-known-k : tie.Need-enum-known-k
 enum-known-k c = search needs
@@ -39,21 +37,18 @@ same-length-2 c = search needs
 
 returns-3 : tie.Need-returns-3
 returns-3 c =
-    let check-sheet = c .before .before .check-sheet in
     let judge-text = c .before .before .before .before .before .before .before .before .judge-text in
     let if2 = c .before .before .before .before .before .before .before .before .before .if2 in
     let if1 = c .before .before .before .before .before .before .before .before .before .before .if1 in
     let s = c .before .before .before .before .before .before .before .before .before .before .before .before in
-    let e = check-sheet .ensures in
+    let e = c .before .before .check-sheet .ensures in
     called-worked (s .args .text .now) (s .args .sets .now) (s .args .work .now) (if1 .left) (if2 .left) (judge-text .ensures .answer-is) (e .0) (e .1 .0) (e .1 .1)
 
 returns-4 : tie.Need-returns-4
 returns-4 c =
-    let judge-text = c .before .before .before .judge-text in
-    let if2 = c .before .before .before .before .if2 in
-    let if1 = c .before .before .before .before .before .if1 in
     let s = c .before .before .before .before .before .before .before in
-    called-refused (s .args .text .now) (s .args .sets .now) (s .args .work .now) (if1 .left) (if2 .left) (judge-text .ensures .answer-is) (c .before .k .given .1)
+    called-refused (s .args .text .now) (s .args .sets .now) (s .args .work .now) (c .before .before .before .before .before .if1 .left) (c .before .before .before .before .if2 .left)
+    (c .before .before .before .judge-text .ensures .answer-is) (c .before .k .given .1)
 
 pub check-spec : {M : Type 1} → statement M
 check-spec = tie.close (tie.spec returns returns-2 judge-text-requires enum-known-n check-sheet-requires enum-known-k same-length same-length-2 returns-3 returns-4)

@@ -61,12 +61,11 @@ same-length-2 c = c .before .before .before .before .check-line .kept .1 .1 .0 �
 
 returns : tie.Need-returns Inv-loop μ-loop
 returns c =
-    let check-line = c .before .before .before .before .check-line in
     let line-end = c .before .before .before .before .before .before .before .before .line-end in
     let loop-test = c .before .before .before .before .before .before .before .before .before .loop-test in
     let m = c .before .before .before .before .before .before .before .before .before .before in
     let s = c .before .before .before .before .before .before .before .before .before .before .before .before in
-    looping-stop (s .args .text .now) (s .args .count) (m .loop .regs) (m .loop .n) (m .loop .at) (m .loop .inv .3) (loop-test .taken) (line-end .ensures) (check-line .ensures)
+    looping-stop (s .args .text .now) (s .args .count) (m .loop .regs) (m .loop .n) (m .loop .at) (m .loop .inv .3) (loop-test .taken) (line-end .ensures) (c .before .before .before .before .check-line .ensures)
     (c .before .if1 .taken) (c .trouble .ensures)
 
 add-at : tie.Need-add-at Inv-loop μ-loop
@@ -117,9 +116,8 @@ same-length-4 c = c .before .loop .inv .1
 
 returns-2 : tie.Need-returns-2 Inv-loop μ-loop
 returns-2 c =
-    let m = c .before in
     let s = c .before .before .before in
-    looping-done (s .args .text .now) (s .args .count) (m .loop .regs) (m .loop .n) (m .loop .at) (m .loop .inv .3) (omega arith)
+    looping-done (s .args .text .now) (s .args .count) (c .before .loop .regs) (c .before .loop .n) (c .before .loop .at) (c .before .loop .inv .3) (omega arith)
 
 pub check-lines-spec : {M : Type 1} → statement M
 check-lines-spec = tie.close (tie.spec Inv-loop μ-loop loop-holds line-end-requires add-n sub-check-line part-check-line-start part-check-line-end check-line-requires trouble-requires same-length same-length-2 returns add-at loop-less loop-again same-length-3 same-length-4 returns-2)

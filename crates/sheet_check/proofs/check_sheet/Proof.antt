@@ -24,9 +24,8 @@ slice-aggregate-check-lines-2 c = sym (length-take-le 8192 (c .before .before .b
 
 check-lines-requires : tie.Need-check-lines-requires
 check-lines-requires c κs =
-    let start = c .before .before .before .start in
     let s = c .before .before .before .before .before .before in
-    (s .pre .0, let h = length-take-le 8192 (s .args .work .now) (s .pre .2) in omega arith, start .ensures)
+    (s .pre .0, let h = length-take-le 8192 (s .args .work .now) (s .pre .2) in omega arith, c .before .before .before .start .ensures)
 
 zero-first-requires : tie.Need-zero-first-requires
 zero-first-requires c κs = search needs
@@ -39,11 +38,9 @@ slice-aggregate-copy-front c = search needs
 
 copy-front-requires : tie.Need-copy-front-requires
 copy-front-requires c κs =
-    let if1 = c .before .before .if1 in
-    let passed = c .before .before .before .passed in
     let check-lines = c .before .before .before .before .before .before .before .before .before .check-lines in
     let s = c .before .before .before .before .before .before .before .before .before .before .before .before .before .before .before .before in
-    (let q = (check-lines .ensures) .passes (sym (passed .ensures) ∙ if1 .taken) .4 in omega arith, s .pre .1)
+    (let q = (check-lines .ensures) .passes (sym (c .before .before .before .passed .ensures) ∙ c .before .before .if1 .taken) .4 in omega arith, s .pre .1)
 
 same-length : tie.Need-same-length
 same-length c = search needs
@@ -53,16 +50,15 @@ same-length-2 c = search needs
 
 returns : tie.Need-returns
 returns c =
-    let if1 = c .before .before .before .before .if1 in
-    let passed = c .before .before .before .before .before .passed in
     let zero-first = c .before .before .before .before .before .before .before .zero-first in
     let check-lines = c .before .before .before .before .before .before .before .before .before .before .before .check-lines in
     let s = c .before .before .before .before .before .before .before .before .before .before .before .before .before .before .before .before .before .before in (
       (check-lines .ensures) .same,
       (
-        sets-passed (check-lines .ensures) (sym (passed .ensures) ∙ if1 .taken) (s .args .sets .now) (c .before .copy-front .ensures),
-        work-left (check-lines .ensures) (s .args .work .now) (zero-first .ensures ∙ zeroed (s .args .work .now) (check-lines .last .1 .1 .1 .0)
-            (check-lines .kept .1 .1 .1 .0 ∙ length-take-le 8192 (s .args .work .now) (s .pre .2))),
+        sets-passed (check-lines .ensures) (sym (c .before .before .before .before .before .passed .ensures) ∙ c .before .before .before .before .if1 .taken)
+            (s .args .sets .now) (c .before .copy-front .ensures),
+        work-left (check-lines .ensures) (s .args .work .now) (zero-first .ensures ∙ zeroed (s .args .work .now)
+            (check-lines .last .1 .1 .1 .0) (check-lines .kept .1 .1 .1 .0 ∙ length-take-le 8192 (s .args .work .now) (s .pre .2))),
       ),
     )
 
@@ -71,14 +67,13 @@ same-length-3 c = search needs
 
 returns-2 : tie.Need-returns-2
 returns-2 c =
-    let zero-first = c .before .before .before .zero-first in
     let check-lines = c .before .before .before .before .before .before .before .check-lines in
     let s = c .before .before .before .before .before .before .before .before .before .before .before .before .before .before in (
       (check-lines .ensures) .same,
       (
         sets-stopped (check-lines .ensures) (sym (c .before .passed .ensures) ∙ c .if1 .left) refl,
         work-left (check-lines .ensures) (s .args .work .now)
-            (zero-first .ensures ∙ zeroed (s .args .work .now) (check-lines .last .1 .1 .1 .0)
+            (c .before .before .before .zero-first .ensures ∙ zeroed (s .args .work .now) (check-lines .last .1 .1 .1 .0)
             (check-lines .kept .1 .1 .1 .0 ∙ length-take-le 8192 (s .args .work .now) (s .pre .2))),
       ),
     )

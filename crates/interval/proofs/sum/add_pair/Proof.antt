@@ -28,8 +28,7 @@ unfolding addPair
 returns c =
     let v = c .before .before .before in
     let w = v .before .before .before .fits in
-    wrote-as
-    (split-is _ _ (sums-far (w .s) (w .e) (w .t) (w .f) (v .before .before .long-together .ensures))
+    wrote-as (split-is _ _ (sums-far (w .s) (w .e) (w .t) (w .f) (v .before .before .long-together .ensures))
     (add-gives (w .s) (w .t) (v .before .add .ok) (v .before .add .ensures)) (add-gives (w .e) (w .f) (v .add2 .ok) (v .add2 .ensures)))
     (c .before .put-split .ensures)
 

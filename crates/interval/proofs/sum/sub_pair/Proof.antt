@@ -28,8 +28,7 @@ unfolding subPair
 returns c =
     let v = c .before .before .before in
     let w = v .before .before .before .fits in
-    wrote-as
-    (split-is _ _ (differences-far (w .s) (w .e) (w .t) (w .f) (v .before .before .long-together .ensures))
+    wrote-as (split-is _ _ (differences-far (w .s) (w .e) (w .t) (w .f) (v .before .before .long-together .ensures))
     (sub-gives (w .s) (w .f) (v .before .sub .ok) (v .before .sub .ensures)) (sub-gives (w .e) (w .t) (v .sub2 .ok) (v .sub2 .ensures)))
     (c .before .put-split .ensures)
 
