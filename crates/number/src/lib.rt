@@ -107,7 +107,8 @@ pub fn next(x: i64) -> Maybe
     ensures { λ r. ⌜ maybe r ≡ point.next x ⌝ }
 {
     if x < MAX {
-        Maybe::Is(x + 1)
+        let after = x + 1;
+        Maybe::Is(after)
     } else {
         Maybe::Nothing
     }
@@ -118,7 +119,8 @@ pub fn prev(x: i64) -> Maybe
     ensures { λ r. ⌜ maybe r ≡ point.prev x ⌝ }
 {
     if MIN < x {
-        Maybe::Is(x - 1)
+        let before = x - 1;
+        Maybe::Is(before)
     } else {
         Maybe::Nothing
     }

@@ -17,14 +17,14 @@ use Rattle.number.proofs.next.Tie as tie
 below : (c : tie.Then1) → ltZ (c .before .args .x) MAX ≡ true
 below c = omega (zarith, num (c .before .fits .x))
 
-add-t4 : tie.Need-add-t4
-add-t4 c = let f = c .before .fits .x in add-ok f (lit (pos 1) tt) (omega (zarith, num f))
+add-after : tie.Need-add-after
+add-after c = let f = c .before .fits .x in add-ok f (lit (pos 1) tt) (omega (zarith, num f))
 
 returns : tie.Need-returns
 unfolding point.next
 returns c =
     let f = c .before .fits .x in
-    ap some (add-is f (lit (pos 1) tt) (add-t4 c) ∙ add-one-is (c .before .args .x)) ∙ if-yes _ _ (below c)
+    ap some (add-is f (lit (pos 1) tt) (add-after c) ∙ add-one-is (c .before .args .x)) ∙ if-yes _ _ (below c)
 
 returns-2 : tie.Need-returns-2
 unfolding point.next
@@ -33,4 +33,4 @@ returns-2 c =
     if-no _ _ t
 
 pub next-spec : {M : Type 1} → statement M
-next-spec = tie.close (tie.spec add-t4 returns returns-2)
+next-spec = tie.close (tie.spec add-after returns returns-2)

@@ -17,14 +17,14 @@ use Rattle.number.proofs.prev.Tie as tie
 above : (c : tie.Then1) → ltZ MIN (c .before .args .x) ≡ true
 above c = omega (zarith, num (c .before .fits .x))
 
-sub-t4 : tie.Need-sub-t4
-sub-t4 c = let f = c .before .fits .x in sub-ok f (lit (pos 1) tt) (omega (zarith, num f))
+sub-before : tie.Need-sub-before
+sub-before c = let f = c .before .fits .x in sub-ok f (lit (pos 1) tt) (omega (zarith, num f))
 
 returns : tie.Need-returns
 unfolding point.prev
 returns c =
     let f = c .before .fits .x in
-    ap some (sub-is f (lit (pos 1) tt) (sub-t4 c) ∙ sub-one-is (c .before .args .x)) ∙ if-yes _ _ (above c)
+    ap some (sub-is f (lit (pos 1) tt) (sub-before c) ∙ sub-one-is (c .before .args .x)) ∙ if-yes _ _ (above c)
 
 returns-2 : tie.Need-returns-2
 unfolding point.prev
@@ -33,4 +33,4 @@ returns-2 c =
     if-no _ _ t
 
 pub prev-spec : {M : Type 1} → statement M
-prev-spec = tie.close (tie.spec sub-t4 returns returns-2)
+prev-spec = tie.close (tie.spec sub-before returns returns-2)
