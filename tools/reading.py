@@ -1,4 +1,4 @@
-"""Document 01 in plain Python integers: point operations, set calls on lent slices, sheets. Written from the document alone, apart from crates/meaning, and used to make
+"""Document 01 in plain Python integers: point operations, set calls on lent slices, sheets. It uses nothing of crates/meaning, and is used to make
 the stored cases of crates/vectors and crates/sheets."""
 MIN, MAX = -2**63, 2**63 - 1
 FULL = 2**64

@@ -1,4 +1,4 @@
-/* Calls every function of juwenfo.h once, so that a declaration that differs from the archive's function shows. */
+/* Calls every function of juwenfo.h at least once, so that a declaration that differs from the archive's function shows. */
 #include "juwenfo.h"
 #include <stdio.h>
 #include <string.h>

@@ -10,7 +10,7 @@ use crate::sys;
 pub struct Written {
     /// Numbers, two for each interval.
     pub count: usize,
-    /// The left set's flag, or a divisor's set held 0.
+    /// The left set's flag, or a divisor's set held 0 and the left set has a member.
     pub flag: bool,
 }
 
@@ -91,11 +91,11 @@ two_work!(
     mul, juwenfo_set_mul
 );
 two_work!(
-    /// At least the quotients of members; a divisor 0 sets the flag. Work: 24 numbers a pair.
+    /// At least the quotients of members; a 0 in the divisor sets the flag if the left set has a member. Work: 24 numbers a pair.
     div, juwenfo_set_div
 );
 two_work!(
-    /// At least the remainders of members; a divisor 0 sets the flag. Work: 32 numbers a pair.
+    /// At least the remainders of members; a 0 in the divisor sets the flag if the left set has a member. Work: 32 numbers a pair.
     rem, juwenfo_set_rem
 );
 two!(

@@ -147,7 +147,9 @@ filled-rebuild (i ∷ l) = filled-insert (i .lo) (i .hi) (rebuild l)
 
 pub filled-meets : (a b : Set) → filled (intersect a b) ≡ share a b
 unfolding intersect
-filled-meets a b = filled-rebuild (eachPair meetPair a b) ∙ filled-each (λ s e. each (meetPair s e) b) (λ s e. someOf (λ t f. leZ (larger s t) (smaller e f)) b) a (λ s e. filled-each (meetPair s e) (λ t f. leZ (larger s t) (smaller e f)) b (λ t f. filled-meet s e t f))
+filled-meets a b =
+    filled-rebuild (eachPair meetPair a b) ∙ filled-each (λ s e. each (meetPair s e) b) (λ s e. someOf (λ t f. leZ (larger s t) (smaller e f)) b) a (λ s e. filled-each
+    (meetPair s e) (λ t f. leZ (larger s t) (smaller e f)) b (λ t f. filled-meet s e t f))
 
 -- ---- what le, lt and ne may be, by the ends that decide
 

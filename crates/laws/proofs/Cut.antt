@@ -165,9 +165,20 @@ cut-past (b ∷ t) (suc n) h = ap {B = List ℕ} (λ u. b ∷ u) (go (eqb b LF) 
     go true h ih = ih n (le-of-suc-le-suc h)
     go false h ih = ih (suc n) h
 
+cut-start : (t : List ℕ) → cut t 0 ≡ []
+unfolding cut
+cut-start [] = refl
+cut-start (b ∷ t) = refl
+
+cut-begins : (t : List ℕ) (n : ℕ) → take (length (cut t n)) t ≡ cut t n
+unfolding cut
+cut-begins [] n = refl
+cut-begins (b ∷ t) zero = refl
+cut-begins (b ∷ t) (suc n) = ap {B = List ℕ} (λ u. b ∷ u) (cut-begins t (cond (eqb b LF) n (suc n)))
+
 pub line-at : (t : List ℕ) → LineAt t
 unfolding lineAt
-line-at t = record { count = lines-feeds t; none = refl; within = cut-next t; past = past; plain = plain }
+line-at t = record { count = lines-feeds t; none = refl; start = cut-start t; begins = cut-begins t; within = cut-next t; past = past; plain = plain }
   where
     past : (n : ℕ) → length (lines t) < n → lineAt t n ≡ []
     past zero h = refl

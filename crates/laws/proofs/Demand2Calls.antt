@@ -89,7 +89,8 @@ module _ (o : Op1) (left : List ℤ) (flag : Bool) (out work : List ℤ) where
   wrote1 e = call-wrote (refusal left) (need1 (factor1 o) left) (set1 o (intervals left)) (flag1 o flag) out work e
 
   shows1 : Wrote (refusal left) (need1 (factor1 o) left) (set1 o (intervals left)) (flag1 o flag) out work
-      → shown (callReturns (refusal left) (need1 (factor1 o) left) (set1 o (intervals left)) (flag1 o flag) out work) (callOut (refusal left) (need1 (factor1 o) left) (set1 o (intervals left)) (flag1 o flag) out work)
+      → shown (callReturns (refusal left) (need1 (factor1 o) left) (set1 o (intervals left)) (flag1 o flag) out work) (callOut (refusal left) (need1 (factor1 o) left)
+      (set1 o (intervals left)) (flag1 o flag) out work)
       ≡ set1 o (intervals left)
   shows1 w = shows (refusal left) (need1 (factor1 o) left) (set1 o (intervals left)) (flag1 o flag) out work w
 

@@ -1,4 +1,4 @@
--- Demand 3 (specs/Demand3.antt) from demand 2: where the check passes a line and each register's number is in its set, the run passes that line and each number is in its set again;
+-- Demand 3 (meaning/specs/Demand3.antt) from demand 2: where the check passes a line and each register's number is in its set, the run passes that line and each number is in its set again;
 -- and a cut sheet reads as the first lines of the sheet. Assumes nothing.
 use lib.IntN.{ℤ, pos}
 use lib.ListN.{getD, set, take, length, replicate, length-set, length-replicate, length-take}
@@ -144,7 +144,8 @@ state-after lent ls zero h = sym (work-none (runLine lent) 1 (startNumbers lent)
 state-after lent ls (suc n) h =
     let e : 1 + n ≡ suc n = omega arith in
     ap (λ o. nextLine (runLine lent) (suc n) o (getD ls n (act (hold 0 (pos 0) (pos 0))))) (state-after lent ls n (omega arith))
-    ∙ sym (work-next (runLine lent) n 1 (startNumbers lent) ls (act (hold 0 (pos 0) (pos 0))) (omega arith) ∙ ap (λ m. nextLine (runLine lent) m (work (runLine lent) 1 (startNumbers lent) (take n ls)) (getD ls n (act (hold 0 (pos 0) (pos 0))))) e)
+    ∙ sym (work-next (runLine lent) n 1 (startNumbers lent) ls (act (hold 0 (pos 0) (pos 0))) (omega arith) ∙ ap
+    (λ m. nextLine (runLine lent) m (work (runLine lent) 1 (startNumbers lent) (take n ls)) (getD ls n (act (hold 0 (pos 0) (pos 0))))) e)
 
 -- ---- the theorem, from demand 2
 

@@ -1,4 +1,4 @@
--- Demand 3 for the calls (specs/Demand3Calls.antt): with slices that are long enough the calls are the check and the run of the text, a trouble is never on line 0, the 528 numbers show the sets,
+-- Demand 3 for the calls (meaning/specs/Demand3Calls.antt): with slices that are long enough the calls are the check and the run of the text, a trouble is never on line 0, the 528 numbers show the sets,
 -- and the run's state fills the first 16 numbers. Assumes nothing.
 use lib.IntN.{ℤ, pos}
 use lib.ListN.{getD, set, length, take, length-set, length-replicate}

@@ -95,7 +95,7 @@ module _ {ℓ} {A : Type ℓ} (l xs : List A) (at : ℕ) (h : at + length xs ≤
       ∙ ap (drop (j - (at + length xs))) (ap (drop (at + length xs)) tail-split ∙ drop-at (take at l ++ xs) (drop (at + length xs) l) (at + length xs) tail-head)
       ∙ drop-drop (j - (at + length xs)) (at + length xs) l)
 
--- The checker's words for it: `&mut l[at..]` lends midOf at (length l - at) l, and when the part is back the whole is putMid at (length l - at) l ys
+-- The prover's words for it: `&mut l[at..]` lends midOf at (length l - at) l, and when the part is back the whole is putMid at (length l - at) l ys
 module _ {A : Type 0} (l : List A) (at : ℕ) (h : at ≤ length l) where
   pub mid-tail : midOf at (length l - at) l ≡ drop at l
   mid-tail = take-all (length l - at) (drop at l) (omega (arith, length-drop at l))

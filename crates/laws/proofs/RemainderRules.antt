@@ -270,7 +270,8 @@ magnitudes-proper negated {a} {b} {c} {d} h p q k =
     magnitudes-case negated a b c d AllProper
     (signed-proper negated 0 (d - 1) (omega arith) (omega arith))
     (λ _ _ _. all-append Proper (signedSpan negated 0 (b % c)) [] (signed-proper negated 0 (b % c) (omega arith) (omega arith)) tt)
-    (λ _ _ _. all-append Proper (signedSpan negated 0 (b % c)) (signedSpan negated (a % c) (c - 1)) (signed-proper negated 0 (b % c) (omega arith) (omega arith)) (signed-proper negated (a % c) (c - 1) (omega arith) (omega arith)))
+    (λ _ _ _. all-append Proper (signedSpan negated 0 (b % c)) (signedSpan negated (a % c) (c - 1)) (signed-proper negated 0 (b % c) (omega arith) (omega arith))
+    (signed-proper negated (a % c) (c - 1) (omega arith) (omega arith)))
     (λ _ _ i. signed-proper negated (a % c) (b % c) (omega (arith, upper b c {x = a} p (omega arith) h, div-add-mod' b c)) (omega arith))
 
 pub f-proper : (s e : ℤ) {t f : ℤ} → OneSign t f → Proper t f → AllProper (ruleF s e t f)

@@ -1,19 +1,23 @@
--- Every refusal and every finding has a number that is not 0, so number 0 is a pass. Assumes nothing.
+-- Every refusal and every finding has a number that is not 0, so number 0 is success: reading, each line and each form by its cases. Assumes nothing.
 use lib.Dec.{ltb, eqb}
-use lib.ListN.{length}
-use mathlib.Core.Path.{_≡_, refl}
-use mathlib.Core.Bool.{Bool, cond, _||_}
+use lib.IntN.{ℤ, pos}
+use lib.ListN.{length, getD, set}
+use mathlib.Core.Path.{_≡_, refl, subst}
+use mathlib.Core.Bool.{Bool, true, false, cond, _||_}
+use mathlib.Core.Option.{Option, none, some}
 use mathlib.Core.List.{List, [], _∷_}
 use Prim.Native.Nat.{ℕ, suc, _≤_}
 use native.Mathlib.Omega.{arith}
-use Rattle.meaning.specs.Refusals.{ungrammatical, farLiteral, misplaced, misshapen, crowded, zeroDivisor, holdBroken}
-use Rattle.meaning.specs.Outcome.{Res, ok, stop, bind, Outcome, done, stopped, onward, work}
+use Rattle.meaning.specs.Refusals.{tooShort, ungrammatical, farLiteral, misplaced, misshapen, crowded, zeroDivisor, holdBroken, outsideIn}
+use Rattle.meaning.specs.Outcome.{Res, ok, stop, bind, orStop, Outcome, done, stopped, onward, work}
+use Rattle.meaning.specs.Number.{within, point2}
 use Rattle.meaning.specs.NumberIntervals.{Set}
-use Rattle.meaning.specs.Sheet.{Form, lit, reg, form1, form2, Act, put, hold, Line, input, act, farLine, crossedLine}
+use Rattle.meaning.specs.Sheet.{registers, Form, lit, reg, form1, form2, Act, put, hold, Line, input, act, farLine, crossedLine}
 use Rattle.meaning.specs.Reading.{Got, got, bad, lineOf, wholeLine, judged, readLine}
 use Rattle.meaning.specs.Text.{Seen, among, admit, Read, sheet, noSheet, prepend, Taken, readOne, thenRead, readLines, read, shaped, splitLines, nothingSeen, lines}
-use Rattle.meaning.specs.Run.{worked, judge, verdict}
-use Rattle.meaning.specs.Check.{Bands, at, inside, settle, setOf, checkAct, checkLine, startSets, check, checkText}
+use Rattle.meaning.specs.Run.{Judged, refused, worked, judge, verdict, valueOf, runAct, runLine, startNumbers, run, runText, runCall}
+use Rattle.meaning.specs.Check.{Bands, at, inside, settle, setOf, checkAct, checkLine, startSets, setsNeed, workNeed, intervalLimit, check, checkText, checkCall}
+use Rattle.meaning.specs.Verdicts.{Verdicts}
 use Rattle.laws.proofs.Integers.{cond-case}
 
 abbrev pub Numbered : {A : Type 0} → Res A → Type 0
@@ -113,15 +117,63 @@ work-numbered {A} f h n a (l ∷ ls) = go (f a l) (h a l) (λ b. work-numbered f
     go (ok b) k ih = ih b
     go (stop j) k ih = k
 
--- number 0 is a pass
-pub zero-passes : (limit : ℕ) (t : List ℕ) → verdict (checkText limit t) .number ≡ 0 → (n : ℕ) × (B : Bands) × (checkText limit t ≡ worked n (done B))
-unfolding checkText check
-zero-passes limit t e = go (read t) (read-numbered t) e
-  where
-    inner : (n : ℕ) (o : Outcome Bands) → NumberedOutcome o → verdict (worked n o) .number ≡ 0 → (m : ℕ) × (B : Bands) × (worked n o ≡ worked m (done B))
-    inner n (done B) h e = (n, B, refl)
-    inner n (stopped k l B) h e = absurd (let x : ⊥ = omega arith in x)
+-- ---- the run
 
-    go : (r : Read) → NumberedRead r → verdict (judge (check limit) r) .number ≡ 0 → (n : ℕ) × (B : Bands) × (judge (check limit) r ≡ worked n (done B))
-    go (sheet ls) h e = inner (length ls) (work (checkLine limit) 1 startSets ls) (work-numbered (checkLine limit) (check-line-numbered limit) 1 startSets ls) e
-    go (noSheet k l) h e = absurd (let x : ⊥ = omega arith in x)
+or-stop-numbered : {A : Type 0} (m : Option A) → Numbered (orStop zeroDivisor m)
+or-stop-numbered none = omega arith
+or-stop-numbered (some z) = tt
+
+value-numbered : (s : List ℤ) (e : Form) → Numbered (valueOf s e)
+unfolding valueOf
+value-numbered s (lit z) = tt
+value-numbered s (reg r) = tt
+value-numbered s (form1 o e) = bind-numbered (valueOf s e) _ (value-numbered s e) (λ x. tt)
+value-numbered s (form2 o e f) =
+    bind-numbered (valueOf s e) _ (value-numbered s e) (λ x. bind-numbered (valueOf s f) _ (value-numbered s f) (λ y. or-stop-numbered (point2 o x y)))
+
+run-act-numbered : (s : List ℤ) (a : Act) → Numbered (runAct s a)
+unfolding runAct
+run-act-numbered s (put r e) = bind-numbered (valueOf s e) _ (value-numbered s e) (λ z. tt)
+run-act-numbered s (hold r lo hi) = cond-case Numbered (within lo (getD s r (pos 0)) hi) (ok s) (stop holdBroken) (λ t. tt) (λ t. omega arith)
+
+run-line-numbered : (lent s : List ℤ) (l : Line) → Numbered (runLine lent s l)
+unfolding runLine
+run-line-numbered lent s (input r lo hi) =
+    cond-case Numbered (within lo (getD lent r (pos 0)) hi) (ok (set s r (getD lent r (pos 0)))) (stop outsideIn) (λ t. tt) (λ t. omega arith)
+run-line-numbered lent s (act a) = run-act-numbered s a
+
+-- ---- number 0 is success
+
+-- what is judged comes to an end with all lines worked
+abbrev Fulfilled : {A : Type 0} → Judged A → Type 0
+Fulfilled {A} j = (n : ℕ) × (a : A) × (j ≡ worked n (done a))
+
+judge-zero : {A : Type 0} (f : List Line → Outcome A) → ((ls : List Line) → NumberedOutcome (f ls)) → (r : Read) → NumberedRead r → verdict (judge f r) .number ≡ 0 → Fulfilled (judge f r)
+judge-zero {A} f h (sheet ls) k e = inner (length ls) (f ls) (h ls) e
+  where
+    inner : (n : ℕ) (o : Outcome A) → NumberedOutcome o → verdict (worked n o) .number ≡ 0 → Fulfilled (worked n o)
+    inner n (done a) g e = (n, a, refl)
+    inner n (stopped j l a) g e = absurd (let x : ⊥ = omega arith in x)
+judge-zero f h (noSheet k l) g e = absurd (let x : ⊥ = omega arith in x)
+
+-- a call that refuses short slices with 3 first
+call-zero : {A : Type 0} (short : Bool) (j : Judged A) → (verdict j .number ≡ 0 → Fulfilled j) → verdict (cond short (refused tooShort 0) j) .number ≡ 0 → Fulfilled (cond short (refused tooShort 0) j)
+call-zero true j h e = absurd (let x : ⊥ = omega arith in x)
+call-zero false j h e = h e
+
+check-zero : (t : List ℕ) → verdict (checkText intervalLimit t) .number ≡ 0 → Fulfilled (checkText intervalLimit t)
+unfolding checkText check
+check-zero t =
+    judge-zero (check intervalLimit) (λ ls. work-numbered (checkLine intervalLimit) (check-line-numbered intervalLimit) 1 startSets ls) (read t) (read-numbered t)
+
+run-zero : (lent : List ℤ) (t : List ℕ) → verdict (runText lent t) .number ≡ 0 → Fulfilled (runText lent t)
+unfolding runText run
+run-zero lent t = judge-zero (run lent) (λ ls. work-numbered (runLine lent) (run-line-numbered lent) 1 (startNumbers lent) ls) (read t) (read-numbered t)
+
+pub verdicts : Verdicts
+unfolding checkCall runCall
+verdicts = record {
+  refused-read = λ t k n e. subst NumberedRead e (read-numbered t);
+  zero-passes = λ t sets work. call-zero (ltb (length sets) setsNeed || ltb (length work) workNeed) (checkText intervalLimit t) (check-zero t);
+  zero-done = λ t lent. call-zero (ltb (length lent) registers) (runText lent t) (run-zero lent t);
+}

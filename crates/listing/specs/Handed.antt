@@ -1,4 +1,4 @@
--- A text handed over into lent bytes: written at their front if it fits, else refused, and then the bytes stay as they were lent. Assumes nothing.
+-- A text handed over into lent bytes: written at their front if it fits; if not, the bytes stay as they were lent. Assumes nothing.
 use lib.Dec.{leb}
 use lib.ListN.{length}
 use mathlib.Core.Bool.{cond}

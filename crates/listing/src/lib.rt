@@ -29,7 +29,7 @@ use wording::pass_line;
 use wording::register_line;
 use wording::trouble_line;
 
-// No listing is longer: "pass 256", and of each register its name and 16 intervals, each of two numbers of up to 20 bytes behind one space and two points.
+// No listing is longer: "pass 256" and LF, and for each register a name counted as three bytes, 16 intervals, each of two numbers of up to 20 bytes behind one space and two points, and LF.
 pub const LONGEST: usize = 11081;
 
 // Written with its length, or longer than the bytes that were lent.

@@ -3,7 +3,7 @@ use mathlib.Core.List.{List, [], _∷_}
 use Prim.Native.Nat.{ℕ, _+_, _-_, _*_, min}
 use Prim.Native.Char.{code}
 
--- 2^63 + 1: no literal has a greater magnitude than 2^63
+-- 2^63 + 1: no literal from MIN to MAX has a greater magnitude than 2^63
 abbrev pub cap : ℕ
 cap = 9223372036854775809
 

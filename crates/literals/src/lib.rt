@@ -81,19 +81,24 @@ fn wide(b: u8) -> u64
     b as u64
 }
 
-// One more digit, held at the cap: no greater number can be a literal's.
+// 2^63, the magnitude of MIN.
+const SIGN: u64 = 9223372036854775808;
+
+// Where a magnitude is held: greater ones are beyond MIN..MAX all the same.
+const CAP: u64 = SIGN + 1;
+
+// The greatest number that one more digit may take to the cap.
+const TENTH: u64 = CAP / 10;
+
+// One more digit, held at the cap.
 fn step(v: u64, d: u8) -> u64
     ensures { λ r. ⌜ r ≡ min cap (v * 10 + d) ⌝ }
 {
-    if v <= 922337203685477580 {
+    if v <= TENTH {
         let w = v * 10 + wide(d);
-        if w <= 9223372036854775809 {
-            w
-        } else {
-            9223372036854775809
-        }
+        if w <= CAP { w } else { CAP }
     } else {
-        9223372036854775809
+        CAP
     }
 }
 
@@ -124,25 +129,21 @@ fn scaled(v: u64, d: usize) -> u64
     ensures { λ r. ⌜ r ≡ min cap (v * scaleOf d) ⌝ }
 {
     let m = scale(d);
-    if v <= 9223372036854775809 / m {
-        v * m
-    } else {
-        9223372036854775809
-    }
+    if v <= CAP / m { v * m } else { CAP }
 }
 
 // The literal of a magnitude; 2^63 is in range only with a minus.
 fn finish(negated: bool, m: u64, n: usize) -> Literal
     ensures { λ r. ⌜ r ≡ literalOf (got (signed negated m) n) ⌝ }
 {
-    if m < 9223372036854775808 {
+    if m < SIGN {
         let z = m as i64;
         if negated {
             Literal::Is(0 - z, false, n)
         } else {
             Literal::Is(z, false, n)
         }
-    } else if m == 9223372036854775808 {
+    } else if m == SIGN {
         if negated {
             Literal::Is(-9223372036854775808, false, n)
         } else {

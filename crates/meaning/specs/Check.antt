@@ -15,6 +15,7 @@ use Rattle.meaning.specs.Sheet.{registers, Form, lit, reg, form1, form2,
 use Rattle.meaning.specs.Text.{read}
 use Rattle.meaning.specs.Run.{Judged, refused, worked, judge}
 
+-- the registers' sets, register 0 first
 pub record Bands : Type 0 where
   pub sets : List Set
 
@@ -84,7 +85,7 @@ countIn (negsuc n) = 0
 unfoldable pub setIn : List ℤ → ℕ → Set
 setIn l r = intervals (take (2 * countIn (getD l (slotSize * r) (pos 0))) (drop (slotSize * r + 1) l))
 
--- ---- the call: the set for every register under the limit of 16; what it returns is the `verdict`
+-- ---- the call: the check with a limit of 16 intervals, and the needs of its slices; what it returns is the `verdict`
 
 abbrev pub setsNeed : ℕ
 setsNeed = registers * slotSize

@@ -1,5 +1,5 @@
 -- Demand 2, for whole normal sets: neg, abs, add and sub return just the point results; every other operation a set that holds every point result.
--- The theorem is `demand2` of proofs/Demand2.antt. Assumes nothing.
+-- The theorem is `demand2` of laws/proofs/Demand2.antt. Assumes nothing.
 use lib.IntN.{ℤ, pos}
 use lib.ListN.{length}
 use mathlib.Core.Path.{_≡_}

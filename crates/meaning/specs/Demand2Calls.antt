@@ -1,5 +1,5 @@
 -- Demand 2 for the calls: the set that a call writes where it refuses nothing. The numbers of a slice are i64, so they are from MIN to MAX.
--- The theorem is `demand2-calls` of proofs/Demand2Calls.antt. Assumes nothing.
+-- The theorem is `demand2-calls` of laws/proofs/Demand2Calls.antt. Assumes nothing.
 use lib.IntN.{ℤ}
 use lib.ListN.{length, take}
 use mathlib.Core.Path.{_≡_}

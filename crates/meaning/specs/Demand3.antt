@@ -1,4 +1,4 @@
--- Demand 3 (01, "What demand 3 compares"): one statement about all the lines of a sheet that the check passes. The theorem is `demand3` of proofs/Demand3.antt. Assumes nothing.
+-- Demand 3 (01, "What demand 3 compares"): one statement about all the lines of a sheet that the check passes. The theorem is `demand3` of laws/proofs/Demand3.antt. Assumes nothing.
 use lib.IntN.{ℤ, pos}
 use lib.ListN.{getD, length}
 use mathlib.Core.Path.{_≡_}

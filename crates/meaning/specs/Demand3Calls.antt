@@ -1,5 +1,5 @@
 -- Demand 3 for the calls: the same statement about what `check` and `run` return and leave in their slices, wherever these are long enough and whatever else they held.
--- The theorem is `demand3-calls` of proofs/Demand3Calls.antt. Assumes nothing.
+-- The theorem is `demand3-calls` of laws/proofs/Demand3Calls.antt. Assumes nothing.
 use lib.IntN.{ℤ, pos}
 use lib.ListN.{getD, length, take}
 use mathlib.Core.Path.{_≡_}

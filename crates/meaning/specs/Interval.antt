@@ -214,6 +214,6 @@ unfoldable pub remWith : ℕ → PairOp
 remWith zero s e t f = []
 remWith (suc n) s e t f = remStep (remWith n) s e t f
 
--- each self-call loses one of five tests (0, −1 and MIN in R; 0 and MIN in L), so 6 is enough: `rem-rules` of proofs/Remainders.antt
+-- each self-call loses one of five tests (0, −1 and MIN in R; 0 and MIN in L), so 6 is enough: `rem-rules` of laws/proofs/Remainders.antt
 unfoldable pub remPair : PairOp
 remPair s e t f = remWith 6 s e t f

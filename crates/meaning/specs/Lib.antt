@@ -20,6 +20,7 @@ pub mod Demand3
 pub mod Demand3Calls
 pub mod ReadLaws
 pub mod CheckSets
+pub mod Verdicts
 pub mod Marked
 pub mod Readings
 pub mod SheetReadings

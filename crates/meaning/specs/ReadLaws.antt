@@ -1,5 +1,5 @@
 -- What reading makes sure of (01, "Sheet"): the line finder and the cut by the text's bytes, the sheet cut after line n, and the lines of a text that is not refused.
--- The theorem is `read-laws` of proofs/Fine.antt. Assumes nothing.
+-- The theorem is `read-laws` of laws/proofs/Fine.antt. Assumes nothing.
 use lib.Dec.{eqb}
 use lib.ListN.{length, take}
 use mathlib.Core.Path.{_≡_}
@@ -18,10 +18,12 @@ abbrev pub feeds : List ℕ → ℕ
 feeds [] = 0
 feeds (b ∷ t) = cond (eqb b LF) (suc (feeds t)) (feeds t)
 
--- there are as many lines as LFs; line 0 and a line that has no LF are empty; the cut after line n + 1 is the cut after line n, then line n + 1, then its LF; and no line has an LF in it
+-- there are as many lines as LFs; line 0 and a line that has no LF are empty; a cut is a beginning of the text, after line 0 an empty one, and after line n + 1 the cut after line n, then line n + 1, then its LF; and no line has an LF in it
 pub record LineAt (t : List ℕ) : Type 0 where
   pub count : length (lines t) ≡ feeds t
   pub none : lineAt t 0 ≡ []
+  pub start : cut t 0 ≡ []
+  pub begins : (n : ℕ) → take (length (cut t n)) t ≡ cut t n
   pub within : (n : ℕ) → n < length (lines t) → cut t (suc n) ≡ cut t n ++ (lineAt t (suc n) ++ LF ∷ [])
   pub past : (n : ℕ) → length (lines t) < n → lineAt t n ≡ []
   pub plain : (n : ℕ) → All (λ b. b ≡ LF → ⊥) (lineAt t n)

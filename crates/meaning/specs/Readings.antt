@@ -30,6 +30,22 @@ pub record Readings : Type 0 where
   -- −(5) is −5, and 5 − 3 is 2
   pub neg-five : point1 neg (pos 5) ≡ minus 5
   pub sub-order : point2 sub (pos 5) (pos 3) ≡ some (pos 2)
+  -- MAX + 1 is MIN
+  pub add-wraps : point2 add MAX (pos 1) ≡ some MIN
+  -- 3 < 3 is false, 3 <= 3 and 3 != 4 are true; a comparison takes its left argument first
+  pub lt-same-number : point2 lt (pos 3) (pos 3) ≡ some (pos 0)
+  pub le-same-number : point2 le (pos 3) (pos 3) ≡ some (pos 1000)
+  pub le-later : point2 le (pos 4) (pos 3) ≡ some (pos 0)
+  pub lt-earlier : point2 lt (pos 3) (pos 4) ≡ some (pos 1000)
+  pub ne-numbers : point2 ne (pos 3) (pos 4) ≡ some (pos 1000)
+  pub ne-same-number : point2 ne (pos 3) (pos 3) ≡ some (pos 0)
+  -- any number but 0 is true
+  pub and-zero : point2 and (pos 5) (pos 0) ≡ some (pos 0)
+  pub and-true : point2 and (pos 5) (minus 1) ≡ some (pos 1000)
+  pub or-zero : point2 or (pos 0) (pos 5) ≡ some (pos 1000)
+  pub or-false : point2 or (pos 0) (pos 0) ≡ some (pos 0)
+  pub not-of-zero : point1 not′ (pos 0) ≡ pos 1000
+  pub not-of-one : point1 not′ (pos 1) ≡ pos 0
   -- MAX has no next number, MIN has one
   pub next-greatest : next MAX ≡ none
   pub next-least : next MIN ≡ some (minus (2 ^ 63 - 1))

@@ -1,4 +1,4 @@
--- The numbers of document 01's table of refusals, and of its findings. Every other place cites these names. Assumes nothing.
+-- The numbers of document 01's table of refusals, and of its findings. The other definitions cite these names. Assumes nothing.
 use Prim.Native.Nat.{ℕ}
 
 -- a set: odd length or not normal

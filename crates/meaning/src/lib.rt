@@ -1,2 +1,2 @@
-// Document 01 as definitions, and the statements of the theorems about them (specs/), with the values that pin how the document is read (proofs/). There is no code here:
-// every other crate is proved equal to it.
+// Document 01 as definitions, the statements of the theorems about them, and values that pin how the document is read (specs/; the values are proved in proofs/).
+// There is no code here: the contracts of the other crates cite it.

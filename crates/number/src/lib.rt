@@ -1,5 +1,5 @@
 // A number is an i64, a count of thousandths from MIN to MAX, and its point operations wrap at these ends. Special are MIN, which has no positive
-// counterpart and is its own negative and magnitude, and a divisor 0, which has no answer. Each call is equal to its definition in `meaning`, specs/Number.antt.
+// counterpart and is its own negative and magnitude, and what has no answer: a divisor 0, `next` at MAX, `prev` at MIN. Each call is equal to its definition in `meaning`, specs/Number.antt.
 pub use truth::and;
 pub use truth::as_bool;
 pub use truth::le;

@@ -1,4 +1,4 @@
-// The numbers of document 01's table of refusals, and of its findings, one name each: those of meaning/specs/Refusals.
+// The numbers of document 01's table of refusals, and of its findings, under the names of meaning/specs/Refusals.
 
 // A set: odd length or not normal.
 pub const NOT_NORMAL: u8 = 1;

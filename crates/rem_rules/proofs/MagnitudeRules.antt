@@ -3,18 +3,19 @@ use borrow.Author.Tests.{le-leb, lt-leb, eq-eqb, ne-eqb}
 use lib.IntN.{ℤ, pos, negℤ, natAbs, _-ℤ_}
 use lib.ListN.{length}
 use lib.Signed.{ltZ, _≤ℤ_, ≤ℤ-refl}
-use mathlib.Core.Path.{_≡_, refl, sym}
+use mathlib.Core.Path.{_≡_, refl, sym, ap, ap₂, _∙_}
 use mathlib.Core.Bool.{Bool, true, false, cond}
 use mathlib.Core.List.{[], _++_, append-nil}
 use Prim.Native.Nat.{ℕ, _-_, _*_, _/_, _%_, _^_, _≤_, _<_}
 use native.Mathlib.Omega.{arith}
 use mir.Syntax.{w64}
 use mir.Val.{SFits}
+use mir.Facts.{toZ-ofZ}
 use Rattle.meaning.specs.Number.{MIN, within}
 use Rattle.meaning.specs.Interval.{span, only, against, leastMagnitude, greatestMagnitude, signedSpan, remMagnitudes, ruleF}
 use Rattle.meaning.specs.NumberIntervals.{flat}
 use Rattle.laws.proofs.Integers.{zarith, cond-case, one-part, abs-parts, sub-parts, up-neg, down-neg}
-use Rattle.laws.proofs.Machine.{num}
+use Rattle.laws.proofs.Machine.{rd, num}
 use Rattle.laws.proofs.Members.{between}
 use Rattle.laws.proofs.Parts.{one-sign}
 use Rattle.laws.proofs.RemainderRules.{magnitudes, magnitudes-case}
@@ -118,3 +119,8 @@ magnitudes-room negated a b c d {n} =
     (λ _ _ _ h. signed-room negated 0 (b % c) (first-room (signedSpan negated 0 (b % c)) [] n h))
     (λ _ _ _ h. signed-room negated 0 (b % c) (first-room (signedSpan negated 0 (b % c)) (signedSpan negated (a % c) (c - 1)) n h))
     (λ _ _ _ h. signed-room negated (a % c) (b % c) h)
+
+-- ---- the least or the greatest of two magnitudes, as the calls give them
+
+pub magnitudes-read : (op : ℕ → ℕ → ℕ) {m a b : ℕ} {x y : ℤ} → m ≡ op a b → a ≡ natAbs (rd x) → b ≡ natAbs (rd y) → SFits w64 x → SFits w64 y → m ≡ op (natAbs x) (natAbs y)
+magnitudes-read op m a b f g = m ∙ ap₂ op (a ∙ ap natAbs (toZ-ofZ f)) (b ∙ ap natAbs (toZ-ofZ g))

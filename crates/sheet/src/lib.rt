@@ -31,7 +31,7 @@ pub enum Judgement {
     Refused(u8, usize),
 }
 
-// Where the line that starts at `at` ends: its LF, or the end of the text.
+// Where the line that starts at `at` ends: its LF, or the end of the text; `at` itself past the end.
 pub fn line_end(text: &[u8], at: usize) -> usize
     ensures { λ r. ⌜ r ≡ at + feed (drop at (now (text .entry))) ⌝ }
 {

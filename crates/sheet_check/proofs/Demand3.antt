@@ -1,4 +1,4 @@
--- Demand 3 for the calls: the contracts say what the calls answer and leave, and `demand3-calls` of `meaning` says that of it which is asked. Assumes nothing.
+-- Demand 3 for the calls: the contracts say what the calls answer and leave, and `demand3-calls` of `laws` says that of it which is asked. Assumes nothing.
 use lib.IntN.{ℤ, pos}
 use lib.ListN.{getD, length, take}
 use mathlib.Core.Path.{sym, ap, subst, _∙_}

@@ -58,7 +58,7 @@ no-interval [] h = refl
 no-interval (a ∷ []) h = refl
 no-interval (a ∷ b ∷ l) h = absurd (omega arith)
 
--- the ends behind the first interval, in the checker's words
+-- the ends behind the first interval, in the prover's words
 pub first-interval : (l : List ℤ) → 2 ≤ length l →
     intervalText (getD l 0 (pos 0)) (getD l 1 (pos 0)) ++ intervalTexts (intervals (take (length l - 2) (drop 2 l))) ≡ intervalTexts (intervals l)
 unfolding intervals intervalTexts intervalText

@@ -60,4 +60,6 @@ unfolding flag2
 returns-7 c = rw (c .before .enum-told7 .given .1) (c .zero-flag2 .ensures)
 
 pub flag-of-spec : {M : Type 1} → statement M
-flag-of-spec = tie.close (tie.spec enum-told enum-told-2 enum-told-3 enum-told-4 enum-told-5 enum-told-6 zero-flag-requires enum-told-7 zero-flag-requires-2 returns returns-2 returns-3 returns-4 returns-5 returns-6 returns-7)
+flag-of-spec =
+    tie.close (tie.spec enum-told enum-told-2 enum-told-3 enum-told-4 enum-told-5 enum-told-6 zero-flag-requires enum-told-7 zero-flag-requires-2 returns returns-2
+    returns-3 returns-4 returns-5 returns-6 returns-7)

@@ -25,7 +25,7 @@ part-copy-bytes-start c = search needs
 part-copy-bytes-end : tie.Need-part-copy-bytes-end
 part-copy-bytes-end c = search needs
 
--- what stands from place r on, in the checker's words
+-- what stands from place r on, in the prover's words
 digits-end : (l d : List ℕ) (r : ℕ) → length l ≡ 20 → drop r l ≡ d → take (20 - r) (drop r l) ≡ d
 digits-end l d r n e = take-all (20 - r) (drop r l) (omega (arith, length-drop r l)) ∙ e
 

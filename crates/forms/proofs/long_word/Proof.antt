@@ -6,7 +6,22 @@ use Rattle.forms.proofs.long_word.Tie as tie
 
 returns-11 : tie.Need-returns-11
 unfolding long
-returns-11 c = simp (ne-eqb _ _ (c .match .rest .0 .0 .0 .0 .0 .0 .0 .0 .0 .1), ne-eqb _ _ (c .match .rest .0 .0 .0 .0 .0 .0 .0 .0 .1), ne-eqb _ _ (c .match .rest .0 .0 .0 .0 .0 .0 .0 .1), ne-eqb _ _ (c .match .rest .0 .0 .0 .0 .0 .0 .1), ne-eqb _ _ (c .match .rest .0 .0 .0 .0 .0 .1), ne-eqb _ _ (c .match .rest .0 .0 .0 .0 .1), ne-eqb _ _ (c .match .rest .0 .0 .0 .1), ne-eqb _ _ (c .match .rest .0 .0 .1), ne-eqb _ _ (c .match .rest .0 .1), ne-eqb _ _ (c .match .rest .1))
+returns-11 c =
+    simp (
+      ne-eqb _ _ (c .match .rest .0 .0 .0 .0 .0 .0 .0 .0 .0 .1),
+      ne-eqb _ _ (c .match .rest .0 .0 .0 .0 .0 .0 .0 .0 .1),
+      ne-eqb _ _
+          (c .match .rest .0 .0 .0 .0 .0 .0 .0 .1),
+      ne-eqb _ _ (c .match .rest .0 .0 .0 .0 .0 .0 .1),
+      ne-eqb _ _ (c .match .rest .0 .0 .0 .0 .0 .1),
+      ne-eqb _ _
+          (c .match .rest .0 .0 .0 .0 .1),
+      ne-eqb _ _ (c .match .rest .0 .0 .0 .1),
+      ne-eqb _ _ (c .match .rest .0 .0 .1),
+      ne-eqb _ _ (c .match .rest .0 .1),
+      ne-eqb _ _
+          (c .match .rest .1),
+    )
 
 pub long-word-spec : {M : Type 1} → statement M
 unfolding long

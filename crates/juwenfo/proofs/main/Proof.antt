@@ -26,7 +26,8 @@ array-share-prefix-text c = bytes-fit (c .before .n .given .1) (c .before .befor
 
 slice-aggregate-write-listing : tie.Need-slice-aggregate-write-listing
 slice-aggregate-write-listing c =
-    sym (length-take-le (c .before .before .n .given .0 .0) (c .before .before .before .before .before .read-text .last .0) (bytes-fit (c .before .before .n .given .1) (c .before .before .before .before .before .read-text .ensures)))
+    sym (length-take-le (c .before .before .n .given .0 .0) (c .before .before .before .before .before .read-text .last .0)
+    (bytes-fit (c .before .before .n .given .1) (c .before .before .before .before .before .read-text .ensures)))
 
 write-listing-requires : tie.Need-write-listing-requires
 write-listing-requires c κs = search needs

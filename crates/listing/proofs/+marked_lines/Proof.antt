@@ -46,8 +46,11 @@ marked-lines-marked-line-requires t c κs =
     let s = c .before .before .before .before in
     let p = s .pre .1 .0 in
     let h : s .args .r < registers = omega arith in
-    let e = lines-step (s .args .marks .now) (s .args .sets .now) (s .args .r) h in
-    ((p .0, p .1, h, p .3), first-room (markedLine (s .args .marks .now) (s .args .sets .now) (s .args .r)) (markedLines (s .args .marks .now) (s .args .sets .now) (s .args .r + 1) (registers - (s .args .r + 1))) _ (room-as _ e (s .pre .1 .1)))
+    let e = lines-step (s .args .marks .now) (s .args .sets .now) (s .args .r) h in (
+      (p .0, p .1, h, p .3),
+      first-room (markedLine (s .args .marks .now) (s .args .sets .now) (s .args .r))
+          (markedLines (s .args .marks .now) (s .args .sets .now) (s .args .r + 1) (registers - (s .args .r + 1))) _ (room-as _ e (s .pre .1 .1)),
+    )
 
 marked-lines-sub-marked-lines : (t : ℕ) → marked-lines-lts.Need-sub-marked-lines (marked-lines-in t) (marked-lines-at t) marked-lines.Post
 marked-lines-sub-marked-lines t c = search needs
@@ -66,8 +69,14 @@ marked-lines-marked-lines-requires t c κs =
     let s = c .before .before .before .before .before .before .before .before in
     let p = s .pre .1 .0 in
     let h : s .args .r < registers = omega arith in
-    let e = lines-step (s .args .marks .now) (s .args .sets .now) (s .args .r) h in
-    (omega (arith, s .pre .0), ((p .0, p .1, omega arith, p .3), room-next (c .before .before .before .marked-line .ensures) (markedLines (s .args .marks .now) (s .args .sets .now) (s .args .r + 1) (registers - (s .args .r + 1))) (room-as _ e (s .pre .1 .1))))
+    let e = lines-step (s .args .marks .now) (s .args .sets .now) (s .args .r) h in (
+      omega (arith, s .pre .0),
+      (
+        (p .0, p .1, omega arith, p .3),
+        room-next (c .before .before .before .marked-line .ensures) (markedLines (s .args .marks .now)
+            (s .args .sets .now) (s .args .r + 1) (registers - (s .args .r + 1))) (room-as _ e (s .pre .1 .1)),
+      ),
+    )
 
 marked-lines-add-result : (t : ℕ) → marked-lines-lts.Need-add-result (marked-lines-in t) (marked-lines-at t) marked-lines.Post
 marked-lines-add-result t c = search needs

@@ -23,7 +23,9 @@ same-length c = search needs
 returns : tie.Need-returns
 returns c =
     let s = c .before .before .before .before .before .before .before .before .before in
-    let e = marked-yes (s .args .marks .now) (s .args .sets .now) (s .args .r) (c .before .before .before .ends-of .result .now) (c .before .before .before .before .before .if1 .taken) (c .before .before .before .ends-of .ensures) in
+    let e =
+    marked-yes (s .args .marks .now) (s .args .sets .now) (s .args .r) (c .before .before .before .ends-of .result .now) (c .before .before .before .before .before .if1 .taken)
+    (c .before .before .before .ends-of .ensures) in
     written-as e (c .before .before .register-line .ensures)
 
 returns-2 : tie.Need-returns-2

@@ -47,8 +47,11 @@ marked-lines-requires c κs =
     let s = c .before .before .before .before .before .before .before .before .before .before in
     let p = s .pre .0 in
     let m = c .before .before .before .before .before .before .mark-lines .last .0 in
-    let e = ap (λ (x : List Bool). passLine (s .args .n) ++ markedLines x (s .args .sets .now) 0 registers) (c .before .before .before .before .before .before .mark-lines .ensures) in
-    ((ap length (c .before .before .before .before .before .before .mark-lines .ensures) ∙ length-marks (s .args .text .now) (s .args .n), p .1, omega arith, p .2), room-next (c .before .before .before .before .pass-line .ensures) (markedLines m (s .args .sets .now) 0 registers) (room-as _ e (s .pre .1)))
+    let e = ap (λ (x : List Bool). passLine (s .args .n) ++ markedLines x (s .args .sets .now) 0 registers) (c .before .before .before .before .before .before .mark-lines .ensures) in (
+      (ap length (c .before .before .before .before .before .before .mark-lines .ensures) ∙ length-marks (s .args .text .now) (s .args .n), p .1, omega arith, p .2),
+      room-next
+          (c .before .before .before .before .pass-line .ensures) (markedLines m (s .args .sets .now) 0 registers) (room-as _ e (s .pre .1)),
+    )
 
 add-result : tie.Need-add-result
 add-result c = search needs

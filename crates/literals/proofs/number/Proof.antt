@@ -37,8 +37,11 @@ loop-again : tie.Need-loop-again Inv-loop μ-loop
 loop-again c =
     let s = c .before .before .before .before .before .before .args .text .now in
     let i = c .before .before .before .before .loop .i in
-    let v = c .before .before .before .before .loop .v in
-    (omega arith, ap (λ (y : ℕ). capped y (drop (i + 1) s)) (c .step .ensures ∙ ap (λ (d : ℕ). min cap (v * 10 + d)) (c .before .digit .ensures)) ∙ sym (capped-more s i v (c .before .before .before .loop-test .taken)) ∙ c .before .before .before .before .loop .inv .1)
+    let v = c .before .before .before .before .loop .v in (
+      omega arith,
+      ap (λ (y : ℕ). capped y (drop (i + 1) s)) (c .step .ensures ∙ ap (λ (d : ℕ). min cap (v * 10 + d)) (c .before .digit .ensures)) ∙ sym
+          (capped-more s i v (c .before .before .before .loop-test .taken)) ∙ c .before .before .before .before .loop .inv .1,
+    )
 
 returns : tie.Need-returns Inv-loop μ-loop
 returns c = sym (capped-end (c .before .before .before .args .text .now) (c .before .loop .i) (c .before .loop .v) (c .loop-test .left)) ∙ c .before .loop .inv .1

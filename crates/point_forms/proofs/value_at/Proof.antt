@@ -25,7 +25,9 @@ returns c =
     ap valueGot (c .before .v .given .1)))
 
 returns-2 : tie.Need-returns-2
-returns-2 c = sym (ap putValue (sym (c .before .before .eval-arg .ensures ∙ ap (arg (points (c .before .before .before .before .before .args .state .now)) 7) (c .before .before .before .tail .ensures)) ∙ ap valueGot (c .enum-told .given .1)))
+returns-2 c =
+    sym (ap putValue (sym (c .before .before .eval-arg .ensures ∙ ap (arg (points (c .before .before .before .before .before .args .state .now)) 7)
+    (c .before .before .before .tail .ensures)) ∙ ap valueGot (c .enum-told .given .1)))
 
 pub value-at-spec : {M : Type 1} → statement M
 value-at-spec =

@@ -14,8 +14,10 @@ use Rattle.rem_rules.proofs.put_magnitudes.Tie as tie
 
 module _ (c : tie.Else4) where
   over : signedSpan (c .before .before .before .before .before .before .before .args .negated) 0 (c .before .before .before .before .before .before .before .args .b % c .before .before .before .before .before .before .before .args .c)
-      ++ signedSpan (c .before .before .before .before .before .before .before .args .negated) (c .before .before .before .before .before .before .before .args .a % c .before .before .before .before .before .before .before .args .c) (c .before .before .before .before .before .before .before .args .c - 1)
-      ≡ remMagnitudes (c .before .before .before .before .before .before .before .args .negated) (c .before .before .before .before .before .before .before .args .a) (c .before .before .before .before .before .before .before .args .b) (c .before .before .before .before .before .before .before .args .c) (c .before .before .before .before .before .before .before .args .d)
+      ++ signedSpan (c .before .before .before .before .before .before .before .args .negated) (c .before .before .before .before .before .before .before .args .a % c .before .before .before .before .before .before .before .args .c)
+      (c .before .before .before .before .before .before .before .args .c - 1)
+      ≡ remMagnitudes (c .before .before .before .before .before .before .before .args .negated) (c .before .before .before .before .before .before .before .args .a) (c .before .before .before .before .before .before .before .args .b)
+      (c .before .before .before .before .before .before .before .args .c) (c .before .before .before .before .before .before .before .args .d)
   over =
       let h = c .before .before .before .before in
       let o = h .before .before .before in
@@ -68,8 +70,10 @@ put-signed-requires-3 : tie.Need-put-signed-requires-3
 put-signed-requires-3 c κs =
     let o = c .before .before .before .before in
     let m = mod-lt (o .args .a) (o .pre .1 .0) in
-    let k = mod-lt (o .args .b) (o .pre .1 .0) in
-    (omega (arith, o .pre .1 .1 .0, o .pre .1 .1 .1 .0), (omega (arith, o .pre .1 .1 .0, o .pre .1 .1 .1 .0), magnitudes-room (o .args .negated) (o .args .a) (o .args .b) (o .args .c) (o .args .d) (o .pre .1 .1 .1 .1)))
+    let k = mod-lt (o .args .b) (o .pre .1 .0) in (
+      omega (arith, o .pre .1 .1 .0, o .pre .1 .1 .1 .0),
+      (omega (arith, o .pre .1 .1 .0, o .pre .1 .1 .1 .0), magnitudes-room (o .args .negated) (o .args .a) (o .args .b) (o .args .c) (o .args .d) (o .pre .1 .1 .1 .1)),
+    )
 
 same-length-3 : tie.Need-same-length-3
 same-length-3 c = search needs
@@ -78,7 +82,8 @@ returns-3 : tie.Need-returns-3
 returns-3 c =
     let h = c .before .before .before in
     let o = h .before .before .before in
-    wrote-as (magnitudes-past (o .args .negated) (o .args .a) (o .args .b) (o .args .c) (o .args .d) (h .before .before .if1 .left) (omega (arith, o .pre .1 .1 .0, h .before .if2 .left)) (h .if3 .taken)) (c .before .put-signed3 .ensures)
+    wrote-as (magnitudes-past (o .args .negated) (o .args .a) (o .args .b) (o .args .c) (o .args .d) (h .before .before .if1 .left)
+    (omega (arith, o .pre .1 .1 .0, h .before .if2 .left)) (h .if3 .taken)) (c .before .put-signed3 .ensures)
 
 rem-put-signed-3 : tie.Need-rem-put-signed-3
 rem-put-signed-3 c = search needs
@@ -96,7 +101,8 @@ returns-4 : tie.Need-returns-4
 returns-4 c =
     let h = c .before .before .before .before in
     let o = h .before .before .before in
-    wrote-as (magnitudes-at (o .args .negated) (o .args .a) (o .args .b) (o .args .c) (o .args .d) (h .before .before .if1 .left) (omega (arith, o .pre .1 .1 .0, h .before .if2 .left)) (c .if4 .taken)) (c .before .before .put-signed4 .ensures)
+    wrote-as (magnitudes-at (o .args .negated) (o .args .a) (o .args .b) (o .args .c) (o .args .d) (h .before .before .if1 .left)
+    (omega (arith, o .pre .1 .1 .0, h .before .if2 .left)) (c .if4 .taken)) (c .before .before .put-signed4 .ensures)
 
 mul-put-signed : tie.Need-mul-put-signed
 mul-put-signed c = search needs
@@ -120,8 +126,14 @@ put-signed-requires-5 : tie.Need-put-signed-requires-5
 put-signed-requires-5 c κs =
     let p = c .before .before .before in
     let o = p .before .before .before .before .before in
-    let m = mod-lt (o .args .a) (o .pre .1 .0) in
-    (omega (arith, o .pre .1 .1 .0, o .pre .1 .1 .1 .0), (omega (arith, o .pre .1 .1 .0, o .pre .1 .1 .1 .0), signed-room (o .args .negated) (o .args .a % o .args .c) (o .args .c - 1) (two-second _ _ (over (c .before)) (o .pre .1 .1 .1 .1) (p .put-signed4 .ensures))))
+    let m = mod-lt (o .args .a) (o .pre .1 .0) in (
+      omega (arith, o .pre .1 .1 .0, o .pre .1 .1 .1 .0),
+      (
+        omega (arith, o .pre .1 .1 .0, o .pre .1 .1 .1 .0),
+        signed-room (o .args .negated) (o .args .a % o .args .c) (o .args .c
+            - 1) (two-second _ _ (over (c .before)) (o .pre .1 .1 .1 .1) (p .put-signed4 .ensures)),
+      ),
+    )
 
 add-result : tie.Need-add-result
 add-result c = search needs

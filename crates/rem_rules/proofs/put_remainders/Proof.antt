@@ -1,34 +1,53 @@
 -- The magnitudes of the ends are those of the definition.
-use lib.IntN.{pos, natAbs}
+use lib.IntN.{pos}
 use native.Mathlib.Omega.{arith}
-use mathlib.Core.Path.{_≡_, ap, ap₂, _∙_}
+use mathlib.Core.Path.{_≡_, _∙_}
 use Prim.Native.Nat.{min, max}
-use mir.Facts.{toZ-ofZ}
 use Rattle.meaning.specs.Interval.{leastMagnitude, greatestMagnitude, remMagnitudes, ruleF}
 use Rattle.laws.proofs.Machine.{lit, ltZ-is}
 use Rattle.slices.proofs.Lent.{wrote-as, room-as}
-use Rattle.rem_rules.proofs.MagnitudeRules.{some-magnitude, magnitude-top, rule-f}
+use Rattle.rem_rules.proofs.MagnitudeRules.{some-magnitude, magnitude-top, rule-f, magnitudes-read}
 use borrow.Author.Needs.{needs}
 use Rattle.rem_rules.proofs.put_remainders.Statement.{statement}
 use Rattle.rem_rules.proofs.put_remainders.Tie as tie
 
 module _ (c : tie.After-high-of2) where
-  low-left : c .before .before .before .low-of .result ≡ leastMagnitude (c .before .before .before .before .before .before .before .before .before .before .args .s) (c .before .before .before .before .before .before .before .before .before .before .args .e)
-  low-left = c .before .before .before .low-of .ensures ∙ ap₂ min (c .before .before .before .before .before .before .before .before .before .magnitude .ensures ∙ ap natAbs (toZ-ofZ (c .before .before .before .before .before .before .before .before .before .before .fits .s))) (c .before .before .before .before .before .before .before .before .magnitude2 .ensures ∙ ap natAbs (toZ-ofZ (c .before .before .before .before .before .before .before .before .before .before .fits .e)))
+  low-left : c .before .before .before .low-of .result
+      ≡ leastMagnitude (c .before .before .before .before .before .before .before .before .before .before .args .s) (c .before .before .before .before .before .before .before .before .before .before .args .e)
+  low-left =
+      let o = c .before .before .before .before .before .before .before .before .before .before in
+      magnitudes-read min (c .before .before .before .low-of .ensures) (c .before .before .before .before .before .before .before .before .before .magnitude .ensures) (c .before .before .before .before .before .before .before .before .magnitude2 .ensures)
+      (o .fits .s) (o .fits .e)
 
-  high-left : c .before .before .high-of .result ≡ greatestMagnitude (c .before .before .before .before .before .before .before .before .before .before .args .s) (c .before .before .before .before .before .before .before .before .before .before .args .e)
-  high-left = c .before .before .high-of .ensures ∙ ap₂ max (c .before .before .before .before .before .before .before .before .before .magnitude .ensures ∙ ap natAbs (toZ-ofZ (c .before .before .before .before .before .before .before .before .before .before .fits .s))) (c .before .before .before .before .before .before .before .before .magnitude2 .ensures ∙ ap natAbs (toZ-ofZ (c .before .before .before .before .before .before .before .before .before .before .fits .e)))
+  high-left : c .before .before .high-of .result
+      ≡ greatestMagnitude (c .before .before .before .before .before .before .before .before .before .before .args .s) (c .before .before .before .before .before .before .before .before .before .before .args .e)
+  high-left =
+      let o = c .before .before .before .before .before .before .before .before .before .before in
+      magnitudes-read max (c .before .before .high-of .ensures) (c .before .before .before .before .before .before .before .before .before .magnitude .ensures) (c .before .before .before .before .before .before .before .before .magnitude2 .ensures)
+      (o .fits .s) (o .fits .e)
 
-  low-right : c .before .low-of2 .result ≡ leastMagnitude (c .before .before .before .before .before .before .before .before .before .before .args .t) (c .before .before .before .before .before .before .before .before .before .before .args .f)
-  low-right = c .before .low-of2 .ensures ∙ ap₂ min (c .before .before .before .before .before .before .before .magnitude3 .ensures ∙ ap natAbs (toZ-ofZ (c .before .before .before .before .before .before .before .before .before .before .fits .t))) (c .before .before .before .before .before .before .magnitude4 .ensures ∙ ap natAbs (toZ-ofZ (c .before .before .before .before .before .before .before .before .before .before .fits .f)))
+  low-right : c .before .low-of2 .result
+      ≡ leastMagnitude (c .before .before .before .before .before .before .before .before .before .before .args .t) (c .before .before .before .before .before .before .before .before .before .before .args .f)
+  low-right =
+      let o = c .before .before .before .before .before .before .before .before .before .before in
+      magnitudes-read min (c .before .low-of2 .ensures) (c .before .before .before .before .before .before .before .magnitude3 .ensures) (c .before .before .before .before .before .before .magnitude4 .ensures)
+      (o .fits .t) (o .fits .f)
 
-  high-right : c .high-of2 .result ≡ greatestMagnitude (c .before .before .before .before .before .before .before .before .before .before .args .t) (c .before .before .before .before .before .before .before .before .before .before .args .f)
-  high-right = c .high-of2 .ensures ∙ ap₂ max (c .before .before .before .before .before .before .before .magnitude3 .ensures ∙ ap natAbs (toZ-ofZ (c .before .before .before .before .before .before .before .before .before .before .fits .t))) (c .before .before .before .before .before .before .magnitude4 .ensures ∙ ap natAbs (toZ-ofZ (c .before .before .before .before .before .before .before .before .before .before .fits .f)))
+  high-right : c .high-of2 .result
+      ≡ greatestMagnitude (c .before .before .before .before .before .before .before .before .before .before .args .t) (c .before .before .before .before .before .before .before .before .before .before .args .f)
+  high-right =
+      let o = c .before .before .before .before .before .before .before .before .before .before in
+      magnitudes-read max (c .high-of2 .ensures) (c .before .before .before .before .before .before .before .magnitude3 .ensures) (c .before .before .before .before .before .before .magnitude4 .ensures)
+      (o .fits .t) (o .fits .f)
 
-  whole : remMagnitudes (c .before .before .before .before .before .less .result) (c .before .before .before .low-of .result) (c .before .before .high-of .result) (c .before .low-of2 .result) (c .high-of2 .result) ≡ ruleF (c .before .before .before .before .before .before .before .before .before .before .args .s) (c .before .before .before .before .before .before .before .before .before .before .args .e) (c .before .before .before .before .before .before .before .before .before .before .args .t) (c .before .before .before .before .before .before .before .before .before .before .args .f)
+  whole : remMagnitudes (c .before .before .before .before .before .less .result) (c .before .before .before .low-of .result) (c .before .before .high-of .result)
+      (c .before .low-of2 .result) (c .high-of2 .result)
+      ≡ ruleF (c .before .before .before .before .before .before .before .before .before .before .args .s) (c .before .before .before .before .before .before .before .before .before .before .args .e)
+      (c .before .before .before .before .before .before .before .before .before .before .args .t) (c .before .before .before .before .before .before .before .before .before .before .args .f)
   whole =
       let o = c .before .before .before .before .before .before .before .before .before .before in
-      rule-f (o .args .s) (o .args .e) (o .args .t) (o .args .f) (c .before .before .before .before .before .less .ensures ∙ ltZ-is (o .fits .s) (lit (pos 0) tt)) low-left high-left low-right high-right
+      rule-f (o .args .s) (o .args .e) (o .args .t) (o .args .f) (c .before .before .before .before .before .less .ensures ∙ ltZ-is (o .fits .s) (lit (pos 0) tt))
+      low-left high-left low-right high-right
 
 magnitude-requires : tie.Need-magnitude-requires
 magnitude-requires c κs = search needs

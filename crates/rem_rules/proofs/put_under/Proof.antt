@@ -43,7 +43,9 @@ returns : tie.Need-returns
 returns c =
     let m = c .before .before .before in
     let o = m .before .before .before .before in
-    let A = back (m .minus .result) (m .minus .ok) ∙ m .minus .ensures ∙ ap (λ (n : ℕ). negℤ (pos (n - 1))) (high-is (m .before)) ∙ under-is (greatestMagnitude (o .args .t) (o .args .f)) (some-magnitude (o .pre .0) (o .pre .1 .0) .2) in
+    let A =
+    back (m .minus .result) (m .minus .ok) ∙ m .minus .ensures ∙ ap (λ (n : ℕ). negℤ (pos (n - 1))) (high-is (m .before)) ∙ under-is (greatestMagnitude (o .args .t)
+    (o .args .f)) (some-magnitude (o .pre .0) (o .pre .1 .0) .2) in
     wrote-as (λ i. span (A i) (pos 0)) (c .before .put-one .ensures)
 
 pub put-under-spec : {M : Type 1} → statement M

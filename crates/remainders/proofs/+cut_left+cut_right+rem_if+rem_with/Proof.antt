@@ -37,16 +37,29 @@ cut-left-read t o i = cutLeft (remWith (o .args .n)) (o .args .c) (o .args .s) (
 cut-left-rem-if-requires : (t : ℕ) → cut-left-lts.Need-rem-if-requires (cut-left-in t) (cut-left-at t) cut-left.Post
 cut-left-rem-if-requires t c κs =
     let o = c .before .before .before in
-    let w = o .fits in
-    (omega (arith, o .pre .0), (rw (toZ-ofZ (w .t), toZ-ofZ (w .f)) (λ _. o .pre .1 .0), cut-first (λ a b. remWith (o .args .n) a b (rd (o .args .t)) (rd (o .args .f))) (w .c) (w .s) (w .e) (o .pre .1 .1 .0) (c .prior .ok) (c .before .less .ensures) (c .prior .ensures) (cut-left-read t o) (o .pre .1 .1 .1)))
+    let w = o .fits in (
+      omega (arith, o .pre .0),
+      (
+        rw (toZ-ofZ (w .t), toZ-ofZ (w .f)) (λ _. o .pre .1 .0),
+        cut-first (λ a b. remWith (o .args .n) a b (rd (o .args .t)) (rd (o .args .f))) (w .c)
+            (w .s) (w .e) (o .pre .1 .1 .0) (c .prior .ok) (c .before .less .ensures) (c .prior .ensures) (cut-left-read t o) (o .pre .1 .1 .1),
+      ),
+    )
 
 cut-left-rem-if-requires-2 : (t : ℕ) → cut-left-lts.Need-rem-if-requires-2 (cut-left-in t) (cut-left-at t) cut-left.Post
 cut-left-rem-if-requires-2 t c κs =
     let p = c .before .before .before .before in
     let q = p .before in
     let o = q .before .before .before in
-    let w = o .fits in
-    (omega (arith, o .pre .0), (rw (toZ-ofZ (w .t), toZ-ofZ (w .f)) (λ _. o .pre .1 .0), cut-second (λ a b. remWith (o .args .n) a b (rd (o .args .t)) (rd (o .args .f))) (w .c) (w .s) (w .e) (o .pre .1 .1 .0) (q .prior .ok) (q .before .less .ensures) (q .prior .ensures) (c .later .ok) (c .before .less2 .ensures) (c .later .ensures) (cut-left-read t o) (o .pre .1 .1 .1) (p .rem-if .ensures)))
+    let w = o .fits in (
+      omega (arith, o .pre .0),
+      (
+        rw (toZ-ofZ (w .t), toZ-ofZ (w .f)) (λ _. o .pre .1 .0),
+        cut-second (λ a b. remWith (o .args .n) a b (rd (o .args .t)) (rd (o .args .f))) (w .c)
+            (w .s) (w .e) (o .pre .1 .1 .0) (q .prior .ok) (q .before .less .ensures) (q .prior .ensures) (c .later .ok) (c .before .less2 .ensures) (c .later .ensures)
+            (cut-left-read t o) (o .pre .1 .1 .1) (p .rem-if .ensures),
+      ),
+    )
 
 cut-left-returns : (t : ℕ) → cut-left-lts.Need-returns (cut-left-in t) (cut-left-at t) cut-left.Post
 cut-left-returns t r =
@@ -55,7 +68,8 @@ cut-left-returns t r =
     let q = p .before in
     let o = q .before .before .before in
     let w = o .fits in
-    cut-wrote (λ a b. remWith (o .args .n) a b (rd (o .args .t)) (rd (o .args .f))) (w .c) (w .s) (w .e) (o .pre .1 .1 .0) (q .prior .ok) (q .before .less .ensures) (q .prior .ensures) (c .later .ok) (c .before .less2 .ensures) (c .later .ensures) (cut-left-read t o) (o .pre .1 .1 .1) (p .rem-if .ensures) (r .before .rem-if2 .ensures)
+    cut-wrote (λ a b. remWith (o .args .n) a b (rd (o .args .t)) (rd (o .args .f))) (w .c) (w .s) (w .e) (o .pre .1 .1 .0) (q .prior .ok) (q .before .less .ensures) (q .prior .ensures)
+    (c .later .ok) (c .before .less2 .ensures) (c .later .ensures) (cut-left-read t o) (o .pre .1 .1 .1) (p .rem-if .ensures) (r .before .rem-if2 .ensures)
 
 cut-right-read : (t : ℕ) (o : cut-right-lts.Start (cut-right-in t) (cut-right-at t) cut-right.Post)
     → cutRight (remWith (o .args .n)) (o .args .c) (rd (o .args .s)) (rd (o .args .e)) (o .args .t) (o .args .f) ≡ cutRight (remWith (o .args .n)) (o .args .c) (o .args .s) (o .args .e) (o .args .t) (o .args .f)
@@ -64,16 +78,29 @@ cut-right-read t o i = cutRight (remWith (o .args .n)) (o .args .c) (toZ-ofZ (o 
 cut-right-rem-if-requires : (t : ℕ) → cut-right-lts.Need-rem-if-requires (cut-right-in t) (cut-right-at t) cut-right.Post
 cut-right-rem-if-requires t c κs =
     let o = c .before .before .before in
-    let w = o .fits in
-    (omega (arith, o .pre .0), (part-below (w .c) (w .t) (c .prior .ok) (c .before .less .ensures) (c .prior .ensures), cut-first (remWith (o .args .n) (rd (o .args .s)) (rd (o .args .e))) (w .c) (w .t) (w .f) (o .pre .1 .0) (c .prior .ok) (c .before .less .ensures) (c .prior .ensures) (cut-right-read t o) (o .pre .1 .1)))
+    let w = o .fits in (
+      omega (arith, o .pre .0),
+      (
+        part-below (w .c) (w .t) (c .prior .ok) (c .before .less .ensures) (c .prior .ensures),
+        cut-first (remWith (o .args .n) (rd (o .args .s))
+            (rd (o .args .e))) (w .c) (w .t) (w .f) (o .pre .1 .0) (c .prior .ok) (c .before .less .ensures) (c .prior .ensures) (cut-right-read t o) (o .pre .1 .1),
+      ),
+    )
 
 cut-right-rem-if-requires-2 : (t : ℕ) → cut-right-lts.Need-rem-if-requires-2 (cut-right-in t) (cut-right-at t) cut-right.Post
 cut-right-rem-if-requires-2 t c κs =
     let p = c .before .before .before .before in
     let q = p .before in
     let o = q .before .before .before in
-    let w = o .fits in
-    (omega (arith, o .pre .0), (part-above (w .c) (w .f) (c .later .ok) (c .before .less2 .ensures) (c .later .ensures), cut-second (remWith (o .args .n) (rd (o .args .s)) (rd (o .args .e))) (w .c) (w .t) (w .f) (o .pre .1 .0) (q .prior .ok) (q .before .less .ensures) (q .prior .ensures) (c .later .ok) (c .before .less2 .ensures) (c .later .ensures) (cut-right-read t o) (o .pre .1 .1) (p .rem-if .ensures)))
+    let w = o .fits in (
+      omega (arith, o .pre .0),
+      (
+        part-above (w .c) (w .f) (c .later .ok) (c .before .less2 .ensures) (c .later .ensures),
+        cut-second (remWith (o .args .n) (rd (o .args .s))
+            (rd (o .args .e))) (w .c) (w .t) (w .f) (o .pre .1 .0) (q .prior .ok) (q .before .less .ensures) (q .prior .ensures) (c .later .ok) (c .before .less2 .ensures) (c .later .ensures)
+            (cut-right-read t o) (o .pre .1 .1) (p .rem-if .ensures),
+      ),
+    )
 
 cut-right-returns : (t : ℕ) → cut-right-lts.Need-returns (cut-right-in t) (cut-right-at t) cut-right.Post
 cut-right-returns t r =
@@ -82,15 +109,22 @@ cut-right-returns t r =
     let q = p .before in
     let o = q .before .before .before in
     let w = o .fits in
-    cut-wrote (remWith (o .args .n) (rd (o .args .s)) (rd (o .args .e))) (w .c) (w .t) (w .f) (o .pre .1 .0) (q .prior .ok) (q .before .less .ensures) (q .prior .ensures) (c .later .ok) (c .before .less2 .ensures) (c .later .ensures) (cut-right-read t o) (o .pre .1 .1) (p .rem-if .ensures) (r .before .rem-if2 .ensures)
+    cut-wrote (remWith (o .args .n) (rd (o .args .s)) (rd (o .args .e))) (w .c) (w .t) (w .f) (o .pre .1 .0) (q .prior .ok) (q .before .less .ensures) (q .prior .ensures) (c .later .ok)
+    (c .before .less2 .ensures) (c .later .ensures) (cut-right-read t o) (o .pre .1 .1) (p .rem-if .ensures) (r .before .rem-if2 .ensures)
 
 -- ---- L by R where they are
 
 rem-if-rem-with-requires : (t : ℕ) → rem-if-lts.Need-rem-with-requires (rem-if-in t) (rem-if-at t) rem-if.Post
 rem-if-rem-with-requires t c κs =
     let o = c .before .before in
-    let w = o .fits in
-    (omega (arith, o .pre .0), (rw (toZ-ofZ (w .t), toZ-ofZ (w .f)) (o .pre .1 .0 (c .before .if1 .taken)), room-as (pair-is (remWith (o .args .n)) (w .s) (w .e) (w .t) (w .f) ∙ taken _ (c .before .if1 .taken)) (o .pre .1 .1)))
+    let w = o .fits in (
+      omega (arith, o .pre .0),
+      (
+        rw (toZ-ofZ (w .t), toZ-ofZ (w .f)) (o .pre .1 .0 (c .before .if1 .taken)),
+        room-as (pair-is (remWith (o .args .n)) (w .s) (w .e) (w .t)
+            (w .f) ∙ taken _ (c .before .if1 .taken)) (o .pre .1 .1),
+      ),
+    )
 
 rem-if-returns : (t : ℕ) → rem-if-lts.Need-returns (rem-if-in t) (rem-if-at t) rem-if.Post
 rem-if-returns t c =
@@ -121,16 +155,31 @@ rem-with-cut-left-requires : (t : ℕ) → rem-with-lts.Need-cut-left-requires (
 rem-with-cut-left-requires t c κs =
     let h = c .before in
     let x = past-a t (h .before .before) in
-    let o = at-a t (h .before .before) in
-    (omega (arith, o .pre .0, x .more), (rw (toZ-ofZ (o .fits .t), toZ-ofZ (o .fits .f)) (o .pre .1 .0), (ends-b t h .0, first-room (left t o MIN) (right t o (negsuc 0)) _ (two-first (left t o MIN ++ right t o (negsuc 0)) (only (pos 0)) (rule-b t h) (o .pre .1 .1)))))
+    let o = at-a t (h .before .before) in (
+      omega (arith, o .pre .0, x .more),
+      (
+        rw (toZ-ofZ (o .fits .t), toZ-ofZ (o .fits .f)) (o .pre .1 .0),
+        (
+          ends-b t h .0,
+          first-room (left t o MIN) (right t o (negsuc 0)) _
+              (two-first (left t o MIN ++ right t o (negsuc 0)) (only (pos 0)) (rule-b t h) (o .pre .1 .1)),
+        ),
+      ),
+    )
 
 rem-with-cut-right-requires-2 : (t : ℕ) → rem-with-lts.Need-cut-right-requires-2 (rem-with-in t) (rem-with-at t) rem-with.Post
 rem-with-cut-right-requires-2 t c κs =
     let p = c .before .before in
     let h = p .before .before in
     let x = past-a t (h .before .before) in
-    let o = at-a t (h .before .before) in
-    (omega (arith, o .pre .0, x .more), (ends-b t h .1, room-next {x = left t o MIN} (p .cut-left .ensures) (right t o (negsuc 0)) (two-first (left t o MIN ++ right t o (negsuc 0)) (only (pos 0)) (rule-b t h) (o .pre .1 .1))))
+    let o = at-a t (h .before .before) in (
+      omega (arith, o .pre .0, x .more),
+      (
+        ends-b t h .1,
+        room-next {x = left t o MIN} (p .cut-left .ensures) (right t o (negsuc 0)) (two-first
+            (left t o MIN ++ right t o (negsuc 0)) (only (pos 0)) (rule-b t h) (o .pre .1 .1)),
+      ),
+    )
 
 rem-with-put-one-requires : (t : ℕ) → rem-with-lts.Need-put-one-requires (rem-with-in t) (rem-with-at t) rem-with.Post
 rem-with-put-one-requires t c κs =
@@ -138,7 +187,8 @@ rem-with-put-one-requires t c κs =
     let p = q .before .before .before in
     let h = p .before .before in
     let o = at-a t (h .before .before) in
-    room-two (pos 0) (pos 0) (two-second (left t o MIN ++ right t o (negsuc 0)) (only (pos 0)) (rule-b t h) (o .pre .1 .1) (wrote-next {x = left t o MIN} (p .cut-left .ensures) (two-first (left t o MIN ++ right t o (negsuc 0)) (only (pos 0)) (rule-b t h) (o .pre .1 .1)) (q .cut-right2 .ensures)))
+    room-two (pos 0) (pos 0) (two-second (left t o MIN ++ right t o (negsuc 0)) (only (pos 0)) (rule-b t h) (o .pre .1 .1) (wrote-next {x = left t o MIN} (p .cut-left .ensures)
+    (two-first (left t o MIN ++ right t o (negsuc 0)) (only (pos 0)) (rule-b t h) (o .pre .1 .1)) (q .cut-right2 .ensures)))
 
 rem-with-returns-3 : (t : ℕ) → rem-with-lts.Need-returns-3 (rem-with-in t) (rem-with-at t) rem-with.Post
 rem-with-returns-3 t c =
@@ -146,14 +196,24 @@ rem-with-returns-3 t c =
     let p = q .before .before .before in
     let h = p .before .before in
     let o = at-a t (h .before .before) in
-    two-wrote (left t o MIN ++ right t o (negsuc 0)) (only (pos 0)) (rule-b t h) (o .pre .1 .1) (wrote-next {x = left t o MIN} (p .cut-left .ensures) (two-first (left t o MIN ++ right t o (negsuc 0)) (only (pos 0)) (rule-b t h) (o .pre .1 .1)) (q .cut-right2 .ensures)) (c .before .put-one .ensures)
+    two-wrote (left t o MIN ++ right t o (negsuc 0)) (only (pos 0)) (rule-b t h) (o .pre .1 .1) (wrote-next {x = left t o MIN} (p .cut-left .ensures)
+    (two-first (left t o MIN ++ right t o (negsuc 0)) (only (pos 0)) (rule-b t h) (o .pre .1 .1)) (q .cut-right2 .ensures)) (c .before .put-one .ensures)
 
 -- (c)
 rem-with-cut-left-requires-2 : (t : ℕ) → rem-with-lts.Need-cut-left-requires-2 (rem-with-in t) (rem-with-at t) rem-with.Post
 rem-with-cut-left-requires-2 t c κs =
     let h = c .before in
-    let o = at-b t (h .before .before) in
-    (omega (arith, o .pre .0, past-b t (h .before .before) .past .more), (rw (toZ-ofZ (o .fits .t), toZ-ofZ (o .fits .f)) (o .pre .1 .0), (told (h .before .holds2 .ensures) (h .if4 .taken), two-first (left t o (pos 0)) (only (pos 0)) (rule-c t h) (o .pre .1 .1))))
+    let o = at-b t (h .before .before) in (
+      omega (arith, o .pre .0, past-b t (h .before .before) .past .more),
+      (
+        rw (toZ-ofZ (o .fits .t), toZ-ofZ (o .fits .f)) (o .pre .1 .0),
+        (
+          told (h .before .holds2 .ensures)
+              (h .if4 .taken),
+          two-first (left t o (pos 0)) (only (pos 0)) (rule-c t h) (o .pre .1 .1),
+        ),
+      ),
+    )
 
 rem-with-put-one-requires-2 : (t : ℕ) → rem-with-lts.Need-put-one-requires-2 (rem-with-in t) (rem-with-at t) rem-with.Post
 rem-with-put-one-requires-2 t c κs =
@@ -173,8 +233,10 @@ rem-with-returns-4 t c =
 rem-with-cut-right-requires-3 : (t : ℕ) → rem-with-lts.Need-cut-right-requires-3 (rem-with-in t) (rem-with-at t) rem-with.Post
 rem-with-cut-right-requires-3 t c κs =
     let h = c .before in
-    let o = at-c t (h .before .before) in
-    (omega (arith, o .pre .0, past-c t (h .before .before) .past .past .more), (told (h .before .holds3 .ensures) (h .if5 .taken), two-first (right t o MIN) (against (rd (o .args .s)) (rd (o .args .e))) (rule-d t h) (o .pre .1 .1)))
+    let o = at-c t (h .before .before) in (
+      omega (arith, o .pre .0, past-c t (h .before .before) .past .past .more),
+      (told (h .before .holds3 .ensures) (h .if5 .taken), two-first (right t o MIN) (against (rd (o .args .s)) (rd (o .args .e))) (rule-d t h) (o .pre .1 .1)),
+    )
 
 rem-with-put-against-requires : (t : ℕ) → rem-with-lts.Need-put-against-requires (rem-with-in t) (rem-with-at t) rem-with.Post
 rem-with-put-against-requires t c κs =
@@ -194,15 +256,31 @@ rem-with-returns-5 t c =
 rem-with-cut-left-requires-3 : (t : ℕ) → rem-with-lts.Need-cut-left-requires-3 (rem-with-in t) (rem-with-at t) rem-with.Post
 rem-with-cut-left-requires-3 t c κs =
     let h = c .before in
-    let o = at-d t (h .before .before) in
-    (omega (arith, o .pre .0, past-d t (h .before .before) .past .past .past .more), (rw (toZ-ofZ (o .fits .t), toZ-ofZ (o .fits .f)) (o .pre .1 .0), (told (h .before .holds4 .ensures) (h .if6 .taken), two-first (left t o MIN) (span (pos 1 -ℤ pos (greatestMagnitude (rd (o .args .t)) (rd (o .args .f)))) (pos 0)) (rule-e t h) (o .pre .1 .1))))
+    let o = at-d t (h .before .before) in (
+      omega (arith, o .pre .0, past-d t (h .before .before) .past .past .past .more),
+      (
+        rw (toZ-ofZ (o .fits .t), toZ-ofZ (o .fits .f)) (o .pre .1 .0),
+        (
+          told
+              (h .before .holds4 .ensures) (h .if6 .taken),
+          two-first (left t o MIN) (span (pos 1 -ℤ pos (greatestMagnitude (rd (o .args .t)) (rd (o .args .f)))) (pos 0)) (rule-e t h)
+              (o .pre .1 .1),
+        ),
+      ),
+    )
 
 rem-with-put-under-requires : (t : ℕ) → rem-with-lts.Need-put-under-requires (rem-with-in t) (rem-with-at t) rem-with.Post
 rem-with-put-under-requires t c κs =
     let p = c .before .before in
     let h = p .before .before in
-    let o = at-d t (h .before .before) in
-    (rw (toZ-ofZ (o .fits .t), toZ-ofZ (o .fits .f)) (o .pre .1 .0), (past-d t (h .before .before) .past .past .past .no-a, room-two _ _ (two-second (left t o MIN) (span (pos 1 -ℤ pos (greatestMagnitude (rd (o .args .t)) (rd (o .args .f)))) (pos 0)) (rule-e t h) (o .pre .1 .1) (p .cut-left3 .ensures))))
+    let o = at-d t (h .before .before) in (
+      rw (toZ-ofZ (o .fits .t), toZ-ofZ (o .fits .f)) (o .pre .1 .0),
+      (
+        past-d t (h .before .before) .past .past .past .no-a,
+        room-two _ _ (two-second (left t o MIN)
+            (span (pos 1 -ℤ pos (greatestMagnitude (rd (o .args .t)) (rd (o .args .f)))) (pos 0)) (rule-e t h) (o .pre .1 .1) (p .cut-left3 .ensures)),
+      ),
+    )
 
 rem-with-returns-6 : (t : ℕ) → rem-with-lts.Need-returns-6 (rem-with-in t) (rem-with-at t) rem-with.Post
 rem-with-returns-6 t c =

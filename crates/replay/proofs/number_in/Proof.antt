@@ -68,4 +68,6 @@ returns c =
     toZ-ofZ (ok (c .of-bits .ok)) ∙ c .of-bits .ensures ∙ ap (λ (n : ℕ). wrap (pos n)) h
 
 pub number-in-spec : {M : Type 1} → statement M
-number-in-spec = tie.close (tie.spec element-copy-out-half element-copy-out-half-2 element-copy-out-half-3 element-copy-out-half-4 half-requires element-copy-out-half-5 element-copy-out-half-6 element-copy-out-half-7 element-copy-out-half-8 half-requires-2 mul-of-bits add-of-bits of-bits-requires returns)
+number-in-spec =
+    tie.close (tie.spec element-copy-out-half element-copy-out-half-2 element-copy-out-half-3 element-copy-out-half-4 half-requires element-copy-out-half-5
+    element-copy-out-half-6 element-copy-out-half-7 element-copy-out-half-8 half-requires-2 mul-of-bits add-of-bits of-bits-requires returns)

@@ -96,7 +96,9 @@ returns c =
     let loop-test = c .before .before .before .before .before .before .before .before .before .before .before .before .loop-test in
     let m = c .before .before .before .before .before .before .before .before .before .before .before .before .before in
     let s = c .before .before .before .before .before .before .before .before .before .before .before .before .before .before .before .before .before .before .before in
-    let e = running-stop (s .args .text .now) (s .args .lent .now) (m .loop .state) (s .args .count) (m .loop .n) (m .loop .at) (m .loop .inv .0) (loop-test .taken) (line-end .ensures) (m .loop .inv .2) (run-line .ensures) (step .given .1) in (
+    let e =
+    running-stop (s .args .text .now) (s .args .lent .now) (m .loop .state) (s .args .count) (m .loop .n) (m .loop .at) (m .loop .inv .0) (loop-test .taken) (line-end .ensures)
+    (m .loop .inv .2) (run-line .ensures) (step .given .1) in (
       sym (ap answerFor e),
       c .before .copy-front2 .ensures ∙ written-is _ _ (stop-size (s .args .text .now) (s .args .lent .now) (m .loop .state) (s .args .count) (m .loop .n)
           (m .loop .at) (m .loop .inv .0) (loop-test .taken) (line-end .ensures) (m .loop .inv .2) (run-line .ensures) (step .given .1)) ∙ ap (over _) (m .loop .inv .1) ∙ sym

@@ -66,8 +66,11 @@ returns-3 c =
     let a = b .before .before in
     let k = a .before .refusal2 .ensures in
     let p = a .before .before .args in
-    let w = cored-whole (p .op) (p .flag) _ _ _ (d .before .before .whole .ensures) (d .before .whole2 .ensures) (d .answer .ensures) in
-    (call-ended _ _ _ _ _ _ (sym (k .0) ∙ a .if1 .left) _ (need-as _ _ (b .before .factor .ensures) (b .need .ensures)) (d .before .before .before .before .if2 .left) w (q .0) (q .1) (q .2), λ _. k .1 (a .if1 .left))
+    let w = cored-whole (p .op) (p .flag) _ _ _ (d .before .before .whole .ensures) (d .before .whole2 .ensures) (d .answer .ensures) in (
+      call-ended _ _ _ _ _ _ (sym (k .0) ∙ a .if1 .left) _ (need-as _ _ (b .before .factor .ensures) (b .need .ensures)) (d .before .before .before .before .if2 .left) w
+          (q .0) (q .1) (q .2),
+      λ _. k .1 (a .if1 .left),
+    )
 
 pub joined-spec : {M : Type 1} → statement M
 joined-spec = tie.close (tie.spec refusal2-requires returns factor-requires need-requires returns-2 whole-requires whole-requires-2 answer-requires finish-requires same-length same-length-2 returns-3)

@@ -60,10 +60,46 @@ abbrev set-form-below : ℕ → In 3 set-form-kinds.ps
 set-form-below t = and 3 set-form-kinds.ps (falls 3 set-form-kinds.ps _<_ μ-set-form t) set-form.Pre
 
 abbrev set-arg-in : ℕ → set-arg-lts.Claims
-set-arg-in t = (at-reads.Asked, at-reads.Learnt, unread-reads.Asked, unread-reads.Learnt, set-form-below t, set-form.Post, read-literal-reads.Asked, read-literal-reads.Learnt, one-interval-reads.Asked, one-interval-reads.Learnt, taken-reads.Asked, taken-reads.Learnt)
+set-arg-in t = (
+  at-reads.Asked,
+  at-reads.Learnt,
+  unread-reads.Asked,
+  unread-reads.Learnt,
+  set-form-below t,
+  set-form.Post,
+  read-literal-reads.Asked,
+  read-literal-reads.Learnt,
+  one-interval-reads.Asked,
+  one-interval-reads.Learnt,
+  taken-reads.Asked,
+  taken-reads.Learnt,
+)
 
 abbrev set-form-in : ℕ → set-form-lts.Claims
-set-form-in t = (start-reads.Asked, start-reads.Learnt, read-head-reads.Asked, read-head-reads.Learnt, tail-reads.Asked, tail-reads.Learnt, read-register-reads.Asked, read-register-reads.Learnt, register-set-reads.Asked, register-set-reads.Learnt, closed-reads.Asked, closed-reads.Learnt, unread-reads.Asked, unread-reads.Learnt, set-arg-below t, set-arg.Post, apply1-reads.Asked, apply1-reads.Learnt, at-reads.Asked, at-reads.Learnt, apply2-reads.Asked, apply2-reads.Learnt)
+set-form-in t = (
+  start-reads.Asked,
+  start-reads.Learnt,
+  read-head-reads.Asked,
+  read-head-reads.Learnt,
+  tail-reads.Asked,
+  tail-reads.Learnt,
+  read-register-reads.Asked,
+  read-register-reads.Learnt,
+  register-set-reads.Asked,
+  register-set-reads.Learnt,
+  closed-reads.Asked,
+  closed-reads.Learnt,
+  unread-reads.Asked,
+  unread-reads.Learnt,
+  set-arg-below t,
+  set-arg.Post,
+  apply1-reads.Asked,
+  apply1-reads.Learnt,
+  at-reads.Asked,
+  at-reads.Learnt,
+  apply2-reads.Asked,
+  apply2-reads.Learnt,
+)
 
 set-arg-at-requires : (t : ℕ) → set-arg-lts.Need-at-requires (set-arg-in t) (set-arg-at t) set-arg.Post
 set-arg-at-requires t c κs = search needs
@@ -397,7 +433,9 @@ set-form-closed-requires-3 t c κs =
     let set-arg2 = c .before .before .before .before .before .before .before .before .before .before .before .before .before .before .before .before .set-arg2 in
     let tail3 = c .before .before .before .before .before .before .before .before .before .before .before .before .before .before .before .before .before .before .tail3 in
     let start = c .before .before .before .before .before .before .before .before .before .before .before .before .before .before .before .before .before .before .before .before .before .before .before .start in
-    let s = c .before .before .before .before .before .before .before .before .before .before .before .before .before .before .before .before .before .before .before .before .before .before .before .before .before in
+    let s =
+    c .before .before .before .before .before .before .before .before .before .before .before .before .before .before .before .before .before .before .before .before .before .before .before .before .before
+    in
     omega (
       arith,
       second-room (s .args .text .now) (s .good .0 .1) (start .result + set-arg2 .result .next) (omega (arith, at .ensures, if3 .left))
@@ -463,9 +501,15 @@ set-form-returns-8 t c =
     let set-arg2 = c .before .before .before .before .before .before .before .before .before .before .before .before .before .before .before .before .before .set-arg2 in
     let tail3 = c .before .before .before .before .before .before .before .before .before .before .before .before .before .before .before .before .before .before .before .tail3 in
     let op2 = c .before .before .before .before .before .before .before .before .before .before .before .before .before .before .before .before .before .before .before .before .before .op2 in
-    let read-head = c .before .before .before .before .before .before .before .before .before .before .before .before .before .before .before .before .before .before .before .before .before .before .before .read-head in
-    let start = c .before .before .before .before .before .before .before .before .before .before .before .before .before .before .before .before .before .before .before .before .before .before .before .before .start in
-    let s = c .before .before .before .before .before .before .before .before .before .before .before .before .before .before .before .before .before .before .before .before .before .before .before .before .before .before in
+    let read-head =
+    c .before .before .before .before .before .before .before .before .before .before .before .before .before .before .before .before .before .before .before .before .before .before .before .read-head
+    in
+    let start =
+    c .before .before .before .before .before .before .before .before .before .before .before .before .before .before .before .before .before .before .before .before .before .before .before .before .start
+    in
+    let s =
+    c .before .before .before .before .before .before .before .before .before .before .before .before .before .before .before .before .before .before .before .before .before .before .before .before .before .before
+    in
     c .closed3 .ensures ∙ ap (λ (v : SetV). closed (s .args .text .now) ((start .result + set-arg2 .result .next + 1) + set-arg3 .result .next) v) (c .before .before .apply2 .ensures)
     ∙ sym (form-two (values (s .args .regs .now)) (s .args .text .now) (s .args .depth) (start .ensures) (read-head .ensures) (tail3 .ensures) (set-arg2 .ensures)
     (ap headOf (op2 .given .1)) (read-good (set-arg2 .result) (if2 .left)) (at .ensures) (if3 .left)
@@ -480,5 +524,15 @@ set-form-returns-9 t c =
 pub +set-arg+set-form-spec : {M : Type 1} → statement M
 +set-arg+set-form-spec =
     close μ-set-arg μ-set-form
-    (λ t. set-arg-lts.spec (set-arg-in t) (set-arg-at t) set-arg.Post (set-arg-at-requires t) (set-arg-unread-requires t) (set-arg-sub-set-form t) (set-arg-set-form-requires t) (set-arg-read-literal-requires t) (set-arg-enum-known-z t) (set-arg-one-interval-requires t) (set-arg-taken-requires t) (set-arg-enum-told t) (set-arg-unread-requires-2 t) (set-arg-returns t) (set-arg-same-length t) (set-arg-returns-2 t) (set-arg-returns-3 t) (set-arg-returns-4 t))
-    (λ t. set-form-lts.spec (set-form-in t) (set-form-at t) set-form.Post (set-form-start-requires t) (set-form-read-head-requires t) (set-form-enum-told t) (set-form-tail-requires t) (set-form-read-register-requires t) (set-form-enum-known-r t) (set-form-add-closed t) (set-form-register-set-requires t) (set-form-closed-requires t) (set-form-enum-told-2 t) (set-form-unread-requires t) (set-form-enum-known-op t) (set-form-tail-requires-2 t) (set-form-set-arg-requires t) (set-form-same-length t) (set-form-returns t) (set-form-add-closed-2 t) (set-form-apply1-requires t) (set-form-closed-requires-2 t) (set-form-enum-known-op-2 t) (set-form-tail-requires-3 t) (set-form-set-arg-requires-2 t) (set-form-same-length-2 t) (set-form-returns-2 t) (set-form-add-at t) (set-form-at-requires t) (set-form-unread-requires-2 t) (set-form-same-length-3 t) (set-form-returns-3 t) (set-form-add-j t) (set-form-add-j-2 t) (set-form-sub-set-arg t) (set-form-part-set-arg-start t) (set-form-part-set-arg-end t) (set-form-set-arg-requires-3 t) (set-form-same-length-4 t) (set-form-returns-4 t) (set-form-add-closed-3 t) (set-form-apply2-requires t) (set-form-closed-requires-3 t) (set-form-enum-told-3 t) (set-form-unread-requires-3 t) (set-form-returns-5 t) (set-form-returns-6 t) (set-form-same-length-5 t) (set-form-returns-7 t) (set-form-same-length-6 t) (set-form-returns-8 t) (set-form-returns-9 t))
+    (λ t. set-arg-lts.spec (set-arg-in t) (set-arg-at t) set-arg.Post (set-arg-at-requires t) (set-arg-unread-requires t) (set-arg-sub-set-form t)
+    (set-arg-set-form-requires t) (set-arg-read-literal-requires t) (set-arg-enum-known-z t) (set-arg-one-interval-requires t) (set-arg-taken-requires t)
+    (set-arg-enum-told t) (set-arg-unread-requires-2 t) (set-arg-returns t) (set-arg-same-length t) (set-arg-returns-2 t) (set-arg-returns-3 t) (set-arg-returns-4 t))
+    (λ t. set-form-lts.spec (set-form-in t) (set-form-at t) set-form.Post (set-form-start-requires t) (set-form-read-head-requires t) (set-form-enum-told t)
+    (set-form-tail-requires t) (set-form-read-register-requires t) (set-form-enum-known-r t) (set-form-add-closed t) (set-form-register-set-requires t)
+    (set-form-closed-requires t) (set-form-enum-told-2 t) (set-form-unread-requires t) (set-form-enum-known-op t) (set-form-tail-requires-2 t) (set-form-set-arg-requires t)
+    (set-form-same-length t) (set-form-returns t) (set-form-add-closed-2 t) (set-form-apply1-requires t) (set-form-closed-requires-2 t) (set-form-enum-known-op-2 t)
+    (set-form-tail-requires-3 t) (set-form-set-arg-requires-2 t) (set-form-same-length-2 t) (set-form-returns-2 t) (set-form-add-at t) (set-form-at-requires t)
+    (set-form-unread-requires-2 t) (set-form-same-length-3 t) (set-form-returns-3 t) (set-form-add-j t) (set-form-add-j-2 t) (set-form-sub-set-arg t)
+    (set-form-part-set-arg-start t) (set-form-part-set-arg-end t) (set-form-set-arg-requires-3 t) (set-form-same-length-4 t) (set-form-returns-4 t) (set-form-add-closed-3 t)
+    (set-form-apply2-requires t) (set-form-closed-requires-3 t) (set-form-enum-told-3 t) (set-form-unread-requires-3 t) (set-form-returns-5 t) (set-form-returns-6 t)
+    (set-form-same-length-5 t) (set-form-returns-7 t) (set-form-same-length-6 t) (set-form-returns-8 t) (set-form-returns-9 t))

@@ -130,4 +130,6 @@ returns-5 c =
     refused-worked (s .args .text .now) (ap (lineFrom (s .args .text .now)) (sym (c .before .k .given .1)) ∙ c .before .before .before .read-line .ensures) refl
 
 pub check-line-spec : {M : Type 1} → statement M
-check-line-spec = tie.close (tie.spec read-line-requires enum-known-r one-interval-requires give-requires enum-known-r-2 value-at-requires give-requires-2 enum-known-r-3 hold-requires enum-known-k same-length returns same-length-2 same-length-3 returns-2 same-length-4 same-length-5 returns-3 same-length-6 returns-4 returns-5)
+check-line-spec =
+    tie.close (tie.spec read-line-requires enum-known-r one-interval-requires give-requires enum-known-r-2 value-at-requires give-requires-2 enum-known-r-3 hold-requires
+    enum-known-k same-length returns same-length-2 same-length-3 returns-2 same-length-4 same-length-5 returns-3 same-length-6 returns-4 returns-5)

@@ -58,4 +58,6 @@ returns c =
     given-is (s .args .regs .now) (s .args .r) (s .args .v) (toZ-ofZ (ok (slot-count .ok)) ∙ slot-count .ensures) (s .pre .0) (s .pre .1) (s .pre .3) (c .before .copy-front .ensures)
 
 pub give-spec : {M : Type 1} → statement M
-give-spec = tie.close (tie.spec mul-k add-j slot-count-requires mul-t9 slice-set-from-regs mul-copy-front sub-copy-front part-copy-front-start part-copy-front-end slice-aggregate-copy-front copy-front-requires same-length returns)
+give-spec =
+    tie.close (tie.spec mul-k add-j slot-count-requires mul-t9 slice-set-from-regs mul-copy-front sub-copy-front part-copy-front-start part-copy-front-end
+    slice-aggregate-copy-front copy-front-requires same-length returns)

@@ -68,4 +68,6 @@ returns-3 c =
     rw (b .before .before .before .enum-told3 .given .1) (left-same (ap ofBools (b .not .ensures ∙ ap notBools (b .before .of-set .ensures))) (c .before .put-bools .ensures))
 
 pub core1-spec : {M : Type 1} → statement M
-core1-spec = tie.close (tie.spec enum-told slice-aggregate-answer answer-requires enum-told-2 slice-aggregate-answer-2 answer-requires-2 enum-told-3 of-set-requires not-requires put-bools-requires same-length returns same-length-2 returns-2 same-length-3 returns-3)
+core1-spec =
+    tie.close (tie.spec enum-told slice-aggregate-answer answer-requires enum-told-2 slice-aggregate-answer-2 answer-requires-2 enum-told-3 of-set-requires not-requires
+    put-bools-requires same-length returns same-length-2 returns-2 same-length-3 returns-3)

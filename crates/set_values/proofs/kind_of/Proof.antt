@@ -64,4 +64,6 @@ returns-10 : tie.Need-returns-10
 returns-10 c = rw (c .enum-told10 .given .1)
 
 pub kind-of-spec : {M : Type 1} → statement M
-kind-of-spec = tie.close (tie.spec enum-told enum-told-2 enum-told-3 enum-told-4 enum-told-5 enum-told-6 enum-told-7 enum-told-8 enum-told-9 enum-told-10 returns returns-2 returns-3 returns-4 returns-5 returns-6 returns-7 returns-8 returns-9 returns-10)
+kind-of-spec =
+    tie.close (tie.spec enum-told enum-told-2 enum-told-3 enum-told-4 enum-told-5 enum-told-6 enum-told-7 enum-told-8 enum-told-9 enum-told-10 returns returns-2
+    returns-3 returns-4 returns-5 returns-6 returns-7 returns-8 returns-9 returns-10)

@@ -48,4 +48,6 @@ returns c =
     slot-value (s .pre .0) (s .args .r) (s .pre .1) (toZ-ofZ (sfits-of (c .before .before .before .before .before .n .given))) (c .amount .ensures) (c .before .before .copy-front .ensures)
 
 pub register-set-spec : {M : Type 1} → statement M
-register-set-spec = tie.close (tie.spec mul-k mul-n shared-slice-copy-out-n add-j slice-aggregate-copy-front mul-copy-front sub-copy-front part-copy-front-start part-copy-front-end copy-front-requires amount-requires returns)
+register-set-spec =
+    tie.close (tie.spec mul-k mul-n shared-slice-copy-out-n add-j slice-aggregate-copy-front mul-copy-front sub-copy-front part-copy-front-start part-copy-front-end
+    copy-front-requires amount-requires returns)

@@ -50,8 +50,13 @@ merge-in-requires c κs =
     let ys = c .before .before .copy-front .last .0 in
     let p = laid w r ys (length l) (c .before .before .before .before .before .pre .0) (c .before .before .copy-front .ensures) in
     let b = laid-back w r ys (length l) (c .before .before .before .before .before .pre .0) (c .before .before .copy-front .ensures) in
-    let n = length-take-le (length l) w (omega (arith, c .before .before .before .before .before .pre .0)) in
-    (rw p (omega (arith, length-append (take (length l) w) r, n)), omega arith, rw (take-whole l) (set-valid l (c .before .before .before .before .before .pre .1)), rw b (set-valid r (c .before .before .before .before .before .pre .2)))
+    let n = length-take-le (length l) w (omega (arith, c .before .before .before .before .before .pre .0)) in (
+      rw p (omega (arith, length-append (take (length l) w) r, n)),
+      omega arith,
+      rw (take-whole l) (set-valid l (c .before .before .before .before .before .pre .1)),
+      rw b
+          (set-valid r (c .before .before .before .before .before .pre .2)),
+    )
 
 join-pass-requires : tie.Need-join-pass-requires
 join-pass-requires c κs = search needs

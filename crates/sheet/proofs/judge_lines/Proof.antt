@@ -27,7 +27,12 @@ part-read-line-start : tie.Need-part-read-line-start Inv-loop μ-loop
 part-read-line-start c = omega (arith, c .line-end .ensures)
 
 part-read-line-end : tie.Need-part-read-line-end Inv-loop μ-loop
-part-read-line-end c = omega (arith, end-lt (c .before .before .before .before .args .text .now) (c .before .before .loop .at) (c .line-end .ensures) (c .before .loop-test .taken) (c .before .before .loop .inv .ended))
+part-read-line-end c =
+    omega (
+      arith,
+      end-lt (c .before .before .before .before .args .text .now) (c .before .before .loop .at) (c .line-end .ensures) (c .before .loop-test .taken)
+          (c .before .before .loop .inv .ended),
+    )
 
 read-line-requires : tie.Need-read-line-requires Inv-loop μ-loop
 read-line-requires c κs = search needs

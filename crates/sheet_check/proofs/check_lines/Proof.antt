@@ -120,4 +120,6 @@ returns-2 c =
     looping-done (s .args .text .now) (s .args .count) (c .before .loop .regs) (c .before .loop .n) (c .before .loop .at) (c .before .loop .inv .3) (omega arith)
 
 pub check-lines-spec : {M : Type 1} → statement M
-check-lines-spec = tie.close (tie.spec Inv-loop μ-loop loop-holds line-end-requires add-n sub-check-line part-check-line-start part-check-line-end check-line-requires trouble-requires same-length same-length-2 returns add-at loop-less loop-again same-length-3 same-length-4 returns-2)
+check-lines-spec =
+    tie.close (tie.spec Inv-loop μ-loop loop-holds line-end-requires add-n sub-check-line part-check-line-start part-check-line-end check-line-requires trouble-requires
+    same-length same-length-2 returns add-at loop-less loop-again same-length-3 same-length-4 returns-2)

@@ -79,4 +79,6 @@ returns-2 c =
     )
 
 pub check-sheet-spec : {M : Type 1} → statement M
-check-sheet-spec = tie.close (tie.spec slice-aggregate-start start-requires slice-aggregate-check-lines slice-relend-prefix-check-lines slice-aggregate-check-lines-2 check-lines-requires zero-first-requires passed-requires slice-aggregate-copy-front copy-front-requires same-length same-length-2 returns same-length-3 returns-2)
+check-sheet-spec =
+    tie.close (tie.spec slice-aggregate-start start-requires slice-aggregate-check-lines slice-relend-prefix-check-lines slice-aggregate-check-lines-2
+    check-lines-requires zero-first-requires passed-requires slice-aggregate-copy-front copy-front-requires same-length same-length-2 returns same-length-3 returns-2)

@@ -91,8 +91,11 @@ interval-texts-interval-texts-requires t c κs =
     let n : 2 ≤ length l = omega arith in
     let lo = back (getD l 0 (pos 0)) (c .before .before .before .before .before .before .before .lo .given) in
     let hi = back (getD l 1 (pos 0)) (c .before .before .before .before .before .before .hi .given) in
-    let x = intervalTexts (intervals (take (length l - 2) (drop 2 l))) in
-    (omega (arith, s .pre .0, length-drop 2 l, length-take (length l - 2) (drop 2 l)), room-next (c .before .before .before .before .interval-text .ensures) x (interval-before-room _ _ _ _ (omega (arith, size-as lo, size-as hi, first-size l n, s .pre .1))))
+    let x = intervalTexts (intervals (take (length l - 2) (drop 2 l))) in (
+      omega (arith, s .pre .0, length-drop 2 l, length-take (length l - 2) (drop 2 l)),
+      room-next (c .before .before .before .before .interval-text .ensures) x
+          (interval-before-room _ _ _ _ (omega (arith, size-as lo, size-as hi, first-size l n, s .pre .1))),
+    )
 
 interval-texts-add-result : (t : ℕ) → interval-texts-lts.Need-add-result (interval-texts-in t) (interval-texts-at t) interval-texts.Post
 interval-texts-add-result t c = search needs
@@ -109,7 +112,8 @@ interval-texts-returns-2 t c =
     let hi = back (getD l 1 (pos 0)) (c .before .before .before .before .before .before .before .before .before .hi .given) in
     let x = intervalTexts (intervals (take (length l - 2) (drop 2 l))) in
     let e = ap (λ (t : List ℕ). t ++ x) (interval-as lo hi) ∙ first-interval l n in
-    written-as e (written-next (c .before .before .before .before .before .before .before .interval-text .ensures) {y = x} (interval-before-room _ _ _ _ (omega (arith, size-as lo, size-as hi, first-size l n, s .pre .1))) (c .before .before .interval-texts .ensures))
+    written-as e (written-next (c .before .before .before .before .before .before .before .interval-text .ensures) {y = x}
+    (interval-before-room _ _ _ _ (omega (arith, size-as lo, size-as hi, first-size l n, s .pre .1))) (c .before .before .interval-texts .ensures))
 
 pub +interval-texts-spec : {M : Type 1} → statement M
 +interval-texts-spec = close μ-interval-texts λ t. interval-texts-lts.spec (interval-texts-in t) (interval-texts-at t) interval-texts.Post

@@ -69,7 +69,9 @@ returns c =
     let s = c .before .before .before .before .before .before .before .before .before .before .before .before .before .before .before in
     let e = register-line (s .args .r) (s .args .ends .now) in
     let h = first-room ((bytes "r" ++ decimal (s .args .r)) ++ (intervalTexts (intervals (s .args .ends .now)))) (bytes "\n") _ (room-as _ e (s .pre)) in
-    let w = written-next (c .before .before .before .before .before .before .before .before .before .before .before .word-nat .ensures) h (c .before .before .before .before .before .before .before .interval-texts .ensures) in
+    let w =
+    written-next (c .before .before .before .before .before .before .before .before .before .before .before .word-nat .ensures) h (c .before .before .before .before .before .before .before .interval-texts .ensures)
+    in
     written-as e (written-next w (room-as _ e (s .pre)) (c .before .before .copy-bytes .ensures))
 
 pub register-line-spec : {M : Type 1} → statement M

@@ -38,7 +38,16 @@ cast-result-2 c = cast-ok (c .before .fits .x) (omega (zarith, num (c .before .f
 returns : tie.Need-returns
 returns c =
     let f = c .before .fits .x in
-    omega (zarith, num f, add-of f most, add-of (add-up c) one, cast-is (add-up-2 c) (omega (zarith, num f, add-of f most, add-of (add-up c) one)), low-bits _ f, bits-neg (c .before .args .x) f (omega (zarith, num f)))
+    omega (
+      zarith,
+      num f,
+      add-of f most,
+      add-of (add-up c) one,
+      cast-is (add-up-2 c) (omega (zarith, num f, add-of f most, add-of (add-up c) one)),
+      low-bits _ f,
+      bits-neg
+          (c .before .args .x) f (omega (zarith, num f)),
+    )
 
 returns-2 : tie.Need-returns-2
 returns-2 c =

@@ -97,4 +97,7 @@ returns-7 : tie.Need-returns-7
 returns-7 c = let h = c .before .before .before in let w = h .before .before .fits in ruled (h .enum-told7 .given .1) (w .a) (w .b) (w .c) (w .d) (c .before .rem-pair .ensures)
 
 pub pair-spec : {M : Type 1} → statement M
-pair-spec = tie.close (tie.spec enum-told neg-pair-requires enum-told-2 abs-pair-requires enum-told-3 add-pair-requires enum-told-4 sub-pair-requires enum-told-5 mul-pair-requires enum-told-6 div-pair-requires enum-told-7 rem-pair-requires same-length returns same-length-2 returns-2 same-length-3 returns-3 same-length-4 returns-4 same-length-5 returns-5 same-length-6 returns-6 same-length-7 returns-7)
+pair-spec =
+    tie.close (tie.spec enum-told neg-pair-requires enum-told-2 abs-pair-requires enum-told-3 add-pair-requires enum-told-4 sub-pair-requires enum-told-5
+    mul-pair-requires enum-told-6 div-pair-requires enum-told-7 rem-pair-requires same-length returns same-length-2 returns-2 same-length-3 returns-3 same-length-4
+    returns-4 same-length-5 returns-5 same-length-6 returns-6 same-length-7 returns-7)

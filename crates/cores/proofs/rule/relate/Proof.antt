@@ -63,4 +63,6 @@ returns-5 : tie.Need-returns-5
 returns-5 c = rw (c .before .before .before .enum-told5 .given .1) (c .or .ensures ∙ (λ i. orBools (c .before .before .of-set3 .ensures i) (c .before .of-set4 .ensures i)))
 
 pub relate-spec : {M : Type 1} → statement M
-relate-spec = tie.close (tie.spec enum-told le-requires enum-told-2 lt-requires enum-told-3 ne-requires enum-told-4 of-set-requires of-set-requires-2 and-requires enum-told-5 of-set-requires-3 of-set-requires-4 or-requires returns returns-2 returns-3 returns-4 returns-5)
+relate-spec =
+    tie.close (tie.spec enum-told le-requires enum-told-2 lt-requires enum-told-3 ne-requires enum-told-4 of-set-requires of-set-requires-2 and-requires enum-told-5
+    of-set-requires-3 of-set-requires-4 or-requires returns returns-2 returns-3 returns-4 returns-5)

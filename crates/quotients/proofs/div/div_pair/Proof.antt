@@ -40,7 +40,8 @@ div-part-if-requires c κs =
       rw (S, E) (o .pre .0 .ordered),
       (
         rw T (λ k. below-zero (sym L ∙ k)),
-        room-as (λ i. cond (L i) (divPart (S i) (E i) (T i) (negsuc 0)) []) (two-first _ _ (pair-cut (o .args .s) (o .args .e) (o .args .t) (o .args .f) (held h)) (div-room (o .pre .0) (o .pre .1 .0) (o .pre .1 .1))),
+        room-as (λ i. cond (L i) (divPart (S i) (E i) (T i) (negsuc 0)) []) (two-first _ _ (pair-cut (o .args .s) (o .args .e) (o .args .t) (o .args .f) (held h))
+            (div-room (o .pre .0) (o .pre .1 .0) (o .pre .1 .1))),
       ),
     )
 
@@ -75,7 +76,8 @@ div-part-if-requires-2 c κs =
       (
         rw F (λ k. above-zero (sym K ∙ k)),
         room-as (λ i. cond (K i) (divPart (S i) (E i) (pos 1) (F i)) [])
-            (two-second _ _ (pair-cut (o .args .s) (o .args .e) (o .args .t) (o .args .f) (held h)) (div-room (o .pre .0) (o .pre .1 .0) (o .pre .1 .1)) (wrote-as (λ i. cond (L i) (divPart (S i) (E i) (T i) (negsuc 0)) []) (p .div-part-if .ensures))),
+            (two-second _ _ (pair-cut (o .args .s) (o .args .e) (o .args .t) (o .args .f) (held h)) (div-room (o .pre .0) (o .pre .1 .0) (o .pre .1 .1))
+            (wrote-as (λ i. cond (L i) (divPart (S i) (E i) (T i) (negsuc 0)) []) (p .div-part-if .ensures))),
       ),
     )
 
@@ -106,7 +108,8 @@ returns c =
     let E = toZ-ofZ (w .e) in
     let T = toZ-ofZ (w .t) in
     let F = toZ-ofZ (w .f) in
-    two-wrote _ _ (pair-cut (o .args .s) (o .args .e) (o .args .t) (o .args .f) (held h)) (div-room (o .pre .0) (o .pre .1 .0) (o .pre .1 .1)) (wrote-as (λ i. cond (L i) (divPart (S i) (E i) (T i) (negsuc 0)) []) (p .div-part-if .ensures))
+    two-wrote _ _ (pair-cut (o .args .s) (o .args .e) (o .args .t) (o .args .f) (held h)) (div-room (o .pre .0) (o .pre .1 .0) (o .pre .1 .1)) (wrote-as
+    (λ i. cond (L i) (divPart (S i) (E i) (T i) (negsuc 0)) []) (p .div-part-if .ensures))
     (wrote-as (λ i. cond (K i) (divPart (S i) (E i) (pos 1) (F i)) []) (r .div-part-if2 .ensures))
 
 same-length-2 : tie.Need-same-length-2

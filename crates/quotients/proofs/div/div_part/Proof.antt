@@ -54,7 +54,10 @@ div-piece-requires c κs =
     let w = o .fits in
     let g = c .before .before .d .given in
     let x = one-proper (o .args .t) (o .args .f) (o .pre .0) (spread-is h) _ _ (g .1) in
-    rw (toZ-ofZ (start-fits x), toZ-ofZ (end-fits x), toZ-ofZ (w .t), toZ-ofZ (w .f)) (x, (o .pre .1 .0, (o .pre .1 .1 .0, room-as (one-part (o .args .t) (o .args .f) (o .pre .0) (spread-is h) _ _ (g .1)) (o .pre .1 .1 .1))))
+    rw (toZ-ofZ (start-fits x), toZ-ofZ (end-fits x), toZ-ofZ (w .t), toZ-ofZ (w .f)) (
+      x,
+      (o .pre .1 .0, (o .pre .1 .1 .0, room-as (one-part (o .args .t) (o .args .f) (o .pre .0) (spread-is h) _ _ (g .1)) (o .pre .1 .1 .1))),
+    )
 
 enum-known-d-2 : tie.Need-enum-known-d-2
 enum-known-d-2 c = search needs
@@ -66,7 +69,10 @@ div-piece-requires-2 c κs =
     let w = o .fits in
     let g = c .before .before .d2 .given in
     let x = two-proper (o .args .t) (o .args .f) (o .pre .0) (spread-is h) _ _ (g .1) in
-    rw (toZ-ofZ (start-fits (x .0)), toZ-ofZ (w .t), toZ-ofZ (w .f)) (x .0, (o .pre .1 .0, (o .pre .1 .1 .0, two-first _ _ (two-part (o .args .t) (o .args .f) (o .pre .0) (spread-is h) _ _ (g .1)) (o .pre .1 .1 .1))))
+    rw (toZ-ofZ (start-fits (x .0)), toZ-ofZ (w .t), toZ-ofZ (w .f)) (
+      x .0,
+      (o .pre .1 .0, (o .pre .1 .1 .0, two-first _ _ (two-part (o .args .t) (o .args .f) (o .pre .0) (spread-is h) _ _ (g .1)) (o .pre .1 .1 .1))),
+    )
 
 mul-div-piece : tie.Need-mul-div-piece
 mul-div-piece c = search needs
@@ -91,7 +97,17 @@ div-piece-requires-3 c κs =
     let A = toZ-ofZ (start-fits (x .0)) in
     let T = toZ-ofZ (w .t) in
     let F = toZ-ofZ (w .f) in
-    rw (toZ-ofZ (end-fits (x .1)), T, F) (x .1, (o .pre .1 .0, (o .pre .1 .1 .0, two-second _ _ (two-part (o .args .t) (o .args .f) (o .pre .0) (spread-is h) _ _ (g .1)) (o .pre .1 .1 .1) (wrote-as (λ i. divPiece (A i) MAX (T i) (F i)) (p .div-piece2 .ensures)))))
+    rw (toZ-ofZ (end-fits (x .1)), T, F) (
+      x .1,
+      (
+        o .pre .1 .0,
+        (
+          o .pre .1 .1 .0,
+          two-second _ _ (two-part (o .args .t) (o .args .f) (o .pre .0) (spread-is h) _ _ (g .1))
+              (o .pre .1 .1 .1) (wrote-as (λ i. divPiece (A i) MAX (T i) (F i)) (p .div-piece2 .ensures)),
+        ),
+      ),
+    )
 
 add-result : tie.Need-add-result
 add-result c = search needs
@@ -132,7 +148,8 @@ returns-3 c =
     let B = toZ-ofZ (end-fits (x .1)) in
     let T = toZ-ofZ (w .t) in
     let F = toZ-ofZ (w .f) in
-    two-wrote _ _ (two-part (o .args .t) (o .args .f) (o .pre .0) (spread-is h) _ _ (g .1)) (o .pre .1 .1 .1) (wrote-as (λ i. divPiece (A i) MAX (T i) (F i)) (p .div-piece2 .ensures)) (wrote-as (λ i. divPiece MIN (B i) (T i) (F i)) (c .before .div-piece3 .ensures))
+    two-wrote _ _ (two-part (o .args .t) (o .args .f) (o .pre .0) (spread-is h) _ _ (g .1)) (o .pre .1 .1 .1) (wrote-as (λ i. divPiece (A i) MAX (T i) (F i))
+    (p .div-piece2 .ensures)) (wrote-as (λ i. divPiece MIN (B i) (T i) (F i)) (c .before .div-piece3 .ensures))
 
 pub div-part-spec : {M : Type 1} → statement M
 div-part-spec =

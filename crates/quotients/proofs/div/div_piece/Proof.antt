@@ -58,8 +58,14 @@ put-hull-if-requires c κs =
     let o = h .before .before in
     let L = c .less .ensures ∙ ltZ-is MIN-fits (o .fits .b) in
     let T = toZ-ofZ (o .fits .t) in
-    let F = toZ-ofZ (o .fits .f) in
-    (λ z. start-nonzero (o .pre .0) (o .pre .1 .0) (o .pre .1 .1 .0) (sym T ∙ z), (λ z. end-nonzero (o .pre .0) (o .pre .1 .0) (o .pre .1 .1 .0) (sym F ∙ z), hull-if-room _ _ _ _ _ _ _ _ L (room-next (p .put-one .ensures) (pastPart (o .args .b) (o .args .t) (o .args .f)) (room-both h))))
+    let F = toZ-ofZ (o .fits .f) in (
+      λ z. start-nonzero (o .pre .0) (o .pre .1 .0) (o .pre .1 .1 .0) (sym T ∙ z),
+      (
+        λ z. end-nonzero (o .pre .0) (o .pre .1 .0) (o .pre .1 .1 .0) (sym F ∙ z),
+        hull-if-room _ _
+            _ _ _ _ _ _ L (room-next (p .put-one .ensures) (pastPart (o .args .b) (o .args .t) (o .args .f)) (room-both h)),
+      ),
+    )
 
 add-i : tie.Need-add-i
 add-i c = search needs
@@ -90,8 +96,12 @@ put-hull-if-requires-2 c κs =
     let B = toZ-ofZ (o .fits .b) in
     let T = toZ-ofZ (o .fits .t) in
     let F = toZ-ofZ (o .fits .f) in
-    let w = wrote-next (p .put-one .ensures) (room-both h) (wrote-as ((λ i. cond (L i) (hull AFTER (B i) (T i) (F i)) []) ∙ past-hull (o .pre .0) (o .pre .1 .0) (o .pre .1 .1 .0) (special h)) (q .put-hull-if .ensures)) in
-    (λ z. start-nonzero (o .pre .0) (o .pre .1 .0) (o .pre .1 .1 .0) (sym T ∙ z), (λ z. omega (zarith, z), hull-if-room _ _ _ _ _ _ _ _ K (two-second _ _ (special-piece (o .pre .0) (o .pre .1 .0) (o .pre .1 .1 .0) (special h)) (o .pre .1 .1 .1) w)))
+    let w =
+    wrote-next (p .put-one .ensures) (room-both h) (wrote-as
+    ((λ i. cond (L i) (hull AFTER (B i) (T i) (F i)) []) ∙ past-hull (o .pre .0) (o .pre .1 .0) (o .pre .1 .1 .0) (special h)) (q .put-hull-if .ensures)) in (
+      λ z. start-nonzero (o .pre .0) (o .pre .1 .0) (o .pre .1 .1 .0) (sym T ∙ z),
+      (λ z. omega (zarith, z), hull-if-room _ _ _ _ _ _ _ _ K (two-second _ _ (special-piece (o .pre .0) (o .pre .1 .0) (o .pre .1 .1 .0) (special h)) (o .pre .1 .1 .1) w)),
+    )
 
 add-result : tie.Need-add-result
 add-result c = search needs
@@ -100,8 +110,15 @@ put-hull-requires : tie.Need-put-hull-requires
 put-hull-requires c κs =
     let h = c .before in
     let o = h .before .before in
-    let w = o .fits in
-    (λ z. start-nonzero (o .pre .0) (o .pre .1 .0) (o .pre .1 .1 .0) (sym (toZ-ofZ (w .t)) ∙ z), (λ z. end-nonzero (o .pre .0) (o .pre .1 .0) (o .pre .1 .1 .0) (sym (toZ-ofZ (w .f)) ∙ z), plain-room (o .args .a) (o .args .b) (o .args .t) (o .args .f) (room-as (plain-piece (o .pre .0) (o .pre .1 .0) (o .pre .1 .1 .0) (plain h)) (o .pre .1 .1 .1))))
+    let w = o .fits in (
+      λ z. start-nonzero (o .pre .0) (o .pre .1 .0) (o .pre .1 .1 .0) (sym (toZ-ofZ (w .t)) ∙ z),
+      (
+        λ z. end-nonzero (o .pre .0) (o .pre .1 .0) (o .pre .1 .1 .0) (sym
+            (toZ-ofZ (w .f)) ∙ z),
+        plain-room (o .args .a) (o .args .b) (o .args .t) (o .args .f) (room-as (plain-piece (o .pre .0) (o .pre .1 .0) (o .pre .1 .1 .0) (plain h))
+            (o .pre .1 .1 .1)),
+      ),
+    )
 
 same-length : tie.Need-same-length
 same-length c = search needs
@@ -119,8 +136,11 @@ returns c =
     let B = toZ-ofZ (o .fits .b) in
     let T = toZ-ofZ (o .fits .t) in
     let F = toZ-ofZ (o .fits .f) in
-    let w = wrote-next (p .put-one .ensures) (room-both h) (wrote-as ((λ i. cond (L i) (hull AFTER (B i) (T i) (F i)) []) ∙ past-hull (o .pre .0) (o .pre .1 .0) (o .pre .1 .1 .0) (special h)) (q .put-hull-if .ensures)) in
-    two-wrote _ _ (special-piece (o .pre .0) (o .pre .1 .0) (o .pre .1 .1 .0) (special h)) (o .pre .1 .1 .1) w (wrote-as ((λ i. cond (K i) (hull (A i) (B i) (T i) (negsuc 1)) []) ∙ short-hull (o .pre .0) (o .pre .1 .0) (o .pre .1 .1 .0) (special h)) (r .put-hull-if2 .ensures))
+    let w =
+    wrote-next (p .put-one .ensures) (room-both h) (wrote-as
+    ((λ i. cond (L i) (hull AFTER (B i) (T i) (F i)) []) ∙ past-hull (o .pre .0) (o .pre .1 .0) (o .pre .1 .1 .0) (special h)) (q .put-hull-if .ensures)) in
+    two-wrote _ _ (special-piece (o .pre .0) (o .pre .1 .0) (o .pre .1 .1 .0) (special h)) (o .pre .1 .1 .1) w (wrote-as
+    ((λ i. cond (K i) (hull (A i) (B i) (T i) (negsuc 1)) []) ∙ short-hull (o .pre .0) (o .pre .1 .0) (o .pre .1 .1 .0) (special h)) (r .put-hull-if2 .ensures))
 
 same-length-2 : tie.Need-same-length-2
 same-length-2 c = search needs

@@ -71,4 +71,21 @@ abbrev pub rem-if-in : ℕ → rem-if-lts.Claims
 rem-if-in t = (rem-with-below t, rem-with.Post)
 
 abbrev pub rem-with-in : ℕ → rem-with-lts.Claims
-rem-with-in t = (holds-reads.Asked, holds-reads.Learnt, cut-right-below t, cut-right.Post, both-reads.Asked, both-reads.Learnt, cut-left-below t, cut-left.Post, put-one-reads.Asked, put-one-reads.Learnt, put-against-reads.Asked, put-against-reads.Learnt, put-under-reads.Asked, put-under-reads.Learnt, put-remainders-reads.Asked, put-remainders-reads.Learnt)
+rem-with-in t = (
+  holds-reads.Asked,
+  holds-reads.Learnt,
+  cut-right-below t,
+  cut-right.Post,
+  both-reads.Asked,
+  both-reads.Learnt,
+  cut-left-below t,
+  cut-left.Post,
+  put-one-reads.Asked,
+  put-one-reads.Learnt,
+  put-against-reads.Asked,
+  put-against-reads.Learnt,
+  put-under-reads.Asked,
+  put-under-reads.Learnt,
+  put-remainders-reads.Asked,
+  put-remainders-reads.Learnt,
+)

@@ -52,7 +52,8 @@ returns c =
     let n = a % 2 ^ 32 * (b / 2 ^ 32) in
     let l = a % 2 ^ 32 * (b % 2 ^ 32) in
     ap (λ (w : ℕ). (h + (m + l / 2 ^ 32) / 2 ^ 32 + (n + (m + l / 2 ^ 32) % 2 ^ 32) / 2 ^ 32) * 2 ^ 64 + w) (c .wrapping-mul-u64 .ensures)
-    ∙ low-word (h + (m + l / 2 ^ 32) / 2 ^ 32 + (n + (m + l / 2 ^ 32) % 2 ^ 32) / 2 ^ 32) ((n + (m + l / 2 ^ 32) % 2 ^ 32) % 2 ^ 32 * 2 ^ 32 + l % 2 ^ 32) (a * b) (omega arith) (columns h m n l ∙ sym (whole-product a b))
+    ∙ low-word (h + (m + l / 2 ^ 32) / 2 ^ 32 + (n + (m + l / 2 ^ 32) % 2 ^ 32) / 2 ^ 32) ((n + (m + l / 2 ^ 32) % 2 ^ 32) % 2 ^ 32 * 2 ^ 32 + l % 2 ^ 32) (a * b) (omega
+    arith) (columns h m n l ∙ sym (whole-product a b))
 
 pub full-spec : {M : Type 1} → statement M
 full-spec =
