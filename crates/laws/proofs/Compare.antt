@@ -87,21 +87,22 @@ common {s} {e} {t} {f} {z} b c =
     (larger-case (λ l. l ≤ℤ z) s t (λ _. c .above) (λ _. b .above), smaller-case (λ g. z ≤ℤ g) e f (λ _. b .below) (λ _. c .below))
 
 module _ {x y : ℤ} {a b : Set} (mx : x ∈ a) (my : y ∈ b) where
+  -- the same number in both
+  pub share-yes : eqZ x y ≡ true → share a b ≡ true
+  share-yes h =
+      some-pair (λ s e t f. leZ (larger s t) (smaller e f)) mx my
+      (λ s e t f bx by. let c = common bx (subst (λ (z : ℤ). Between t z f) (sym (eqZ-is h)) by) in omega (zarith, c .0, c .1))
+
   pub ne-holds : ofBool (not (eqZ x y)) ∈ ofBools (neBools a b)
   unfolding neBools
   ne-holds =
       in-bools (not (eqZ x y)) (neBools a b)
       (λ h. or-right (not (share a b)) (differ (not-true (eqZ x y) h) (sameNumber (constant a) (constant b)) refl))
-      (λ h. meet (not-false (eqZ x y) h))
+      (λ h. share-yes (not-false (eqZ x y) h))
     where
       differ : eqZ x y ≡ false → (t : Bool) → sameNumber (constant a) (constant b) ≡ t → not t ≡ true
       differ h false e = refl
       differ h true e = let q : x ≡ y = same-number (constant a) (constant b) (λ c k. constant-is a c mx k) (λ c k. constant-is b c my k) e in absurd (omega zarith)
-
-      meet : eqZ x y ≡ true → share a b ≡ true
-      meet h =
-          some-pair (λ s e t f. leZ (larger s t) (smaller e f)) mx my
-          (λ s e t f bx by. let c = common bx (subst (λ (z : ℤ). Between t z f) (sym (eqZ-is h)) by) in omega (zarith, c .0, c .1))
 
 -- ---- and, or, not
 

@@ -18,6 +18,7 @@ use Rattle.laws.proofs.Join.{in-rebuild, rebuild-in, rebuild-normal, no
 use Rattle.laws.proofs.Sums.{From2, add-holds, add-only, add-proper, add-few, sub-holds, sub-only, sub-proper, sub-few}
 use Rattle.laws.proofs.Signs.{From1, neg-holds, neg-only, neg-proper, neg-few, abs-holds, abs-only, abs-proper, abs-few}
 use Rattle.laws.proofs.Products.{mul-holds, mul-proper, mul-few}
+use Rattle.laws.proofs.Exact.{only-not, only-le, only-lt, ne-only, and-only, or-only}
 use Rattle.laws.proofs.Quotients.{div-holds, div-proper, div-few}
 use Rattle.laws.proofs.Remainders.{rem-holds, rem-proper, rem-rules}
 use Rattle.laws.proofs.RemainderCounts.{rem-few}
@@ -163,6 +164,12 @@ demand2 = record {
   abs-only = only-abs;
   add-only = only-add;
   sub-only = only-sub;
+  not-only = only-not;
+  le-only = only-le;
+  lt-only = only-lt;
+  ne-only = λ a b x y z n k mx my m. ne-only a b z n k mx my m;
+  and-only = λ a b x y z n k mx my m. and-only a b z n k mx my m;
+  or-only = λ a b x y z n k mx my m. or-only a b z n k mx my m;
   union-holds = λ a b z n k m. union-holds a b n k m;
   union-only = λ a b z n k m. union-only a b n k m;
   intersect-holds = λ a b z n k m h. intersect-holds a b n k m h;

@@ -13,8 +13,8 @@ use Rattle.meaning.specs.Refusals.{notNormal, tooMany, tooShort, noRoom}
 use Rattle.meaning.specs.Number.{InRange, Op1, neg, abs, not′, Op2, add, sub, mul, div, rem, le, lt, ne, and, or, point1}
 use Rattle.meaning.specs.NumberIntervals.{Set, _∈_, Normal, union, intersect, set1, set2, flag1, flag2, flat, intervals, normal}
 use Rattle.meaning.specs.SetCalls.{Returned, written, refused, refusal, refusal2, factor1, factor2, need1, need2, callReturns, callOut}
-use Rattle.meaning.specs.Demand2.{Only1, Only2}
-use Rattle.meaning.specs.Demand2Calls.{shown, Ends, Stands, exact1, exact2, CallJust, CallsRight}
+use Rattle.meaning.specs.Demand2.{Only1, Only2, OnlyFilled2}
+use Rattle.meaning.specs.Demand2Calls.{shown, Ends, Stands, exact2, exactFilled2, CallJust, CallsRight}
 use Rattle.laws.proofs.Integers.{clash}
 use Rattle.laws.proofs.Over.{length-over, take-over}
 use Rattle.laws.proofs.Flat.{intervals-flat, flat-intervals, ends-normal}
@@ -95,10 +95,10 @@ module _ (o : Op1) (left : List ℤ) (flag : Bool) (out work : List ℤ) where
   shows1 w = shows (refusal left) (need1 (factor1 o) left) (set1 o (intervals left)) (flag1 o flag) out work w
 
 -- the exact ones, by `demand2`
-only1 : (o : Op1) → exact1 o ≡ true → Only1 o
-only1 neg e = demand2 .neg-only
-only1 abs e = demand2 .abs-only
-only1 not′ e = clash e refl
+only1 : (o : Op1) → Only1 o
+only1 neg = demand2 .neg-only
+only1 abs = demand2 .abs-only
+only1 not′ = demand2 .not-only
 
 only2 : (o : Op2) → exact2 o ≡ true → Only2 o
 only2 add e = demand2 .add-only
@@ -106,11 +106,27 @@ only2 sub e = demand2 .sub-only
 only2 mul e = clash e refl
 only2 div e = clash e refl
 only2 rem e = clash e refl
-only2 le e = clash e refl
-only2 lt e = clash e refl
+only2 le e = demand2 .le-only
+only2 lt e = demand2 .lt-only
 only2 ne e = clash e refl
 only2 and e = clash e refl
 only2 or e = clash e refl
+
+-- an operation that is exact is so where both sets have a member
+filled : {o : Op2} → Only2 o → OnlyFilled2 o
+filled h a b x y z n k mx my m = h a b z n k m
+
+filled-only2 : (o : Op2) → exactFilled2 o ≡ true → OnlyFilled2 o
+filled-only2 add e = filled (demand2 .add-only)
+filled-only2 sub e = filled (demand2 .sub-only)
+filled-only2 mul e = clash e refl
+filled-only2 div e = clash e refl
+filled-only2 rem e = clash e refl
+filled-only2 le e = filled (demand2 .le-only)
+filled-only2 lt e = filled (demand2 .lt-only)
+filled-only2 ne e = demand2 .ne-only
+filled-only2 and e = demand2 .and-only
+filled-only2 or e = demand2 .or-only
 
 -- ---- two operands: `answer` is what the definitions give
 
@@ -161,7 +177,7 @@ demand2-calls = record {
         left-ends = l;
         stands = wrote-ends (refusal left) (need1 (factor1 o) left) (set1 o (intervals left)) (flag1 o flag) out work w (demand2 .normal1 o (intervals left) n);
         holds = λ x m. subst (λ (a : Set). point1 o x ∈ a) s (demand2 .holds1 o (intervals left) (point1 o x) n (record { member = x; member-in = m; gives = refl }));
-        only = λ x z m. only1 o x (intervals left) z n (subst (λ (a : Set). z ∈ a) (sym s) m);
+        only = λ z m. only1 o (intervals left) z n (subst (λ (a : Set). z ∈ a) (sym s) m);
         flagged = flagged (refusal left) (need1 (factor1 o) left) (set1 o (intervals left)) (flag1 o flag) out work w;
       };
   call2 = λ o left flag right out work h g e.
@@ -179,6 +195,7 @@ demand2-calls = record {
         stands = wrote-ends (refusal2 left right) need answer f out work (wrote2 need answer f left right out work h g e) (demand2 .normal2 o (intervals left) (intervals right) n k);
         holds = λ x y z mx my r. subst (λ (a : Set). z ∈ a) s (demand2 .holds2 o (intervals left) (intervals right) z n k (record { left = x; right = y; left-in = mx; right-in = my; gives = r }));
         only = λ x z m. only2 o x (intervals left) (intervals right) z n k (subst (λ (a : Set). z ∈ a) (sym s) m);
+        filled-only = λ e x y z mx my m. filled-only2 o e (intervals left) (intervals right) x y z n k mx my (subst (λ (a : Set). z ∈ a) (sym s) m);
         flagged = flagged (refusal2 left right) need answer f out work (wrote2 need answer f left right out work h g e);
       };
   union-call = λ left right out h g e. just (union (intervals left) (intervals right)) left right out h g e

@@ -7,6 +7,7 @@ pub mod Demand2
 pub mod Demand2Calls
 pub mod Demand3
 pub mod Demand3Calls
+pub mod Exact
 pub mod Fine
 pub mod Flat
 pub mod Fusion

@@ -1,4 +1,5 @@
--- Demand 2, for whole normal sets: neg, abs, add and sub return just the point results; every other operation a set that holds every point result.
+-- Demand 2, for whole normal sets: neg, abs, add and sub return just the point results; every other operation a set that holds every point result. So do not, le and lt just these,
+-- and and, or and ne where both sets have a member.
 -- The theorem is `demand2` of laws/proofs/Demand2.antt. Assumes nothing.
 use lib.IntN.{ℤ, pos}
 use lib.ListN.{length}
@@ -40,6 +41,10 @@ Only1 o = (a : Set) (z : ℤ) → Normal a → z ∈ set1 o a → Result1 o a z
 abbrev pub Only2 : Op2 → Type 0
 Only2 o = (a b : Set) (z : ℤ) → Normal a → Normal b → z ∈ set2 o a b → Result2 o a b z
 
+-- so it is where both sets have a member
+abbrev pub OnlyFilled2 : Op2 → Type 0
+OnlyFilled2 o = (a b : Set) (x y z : ℤ) → Normal a → Normal b → x ∈ a → y ∈ b → z ∈ set2 o a b → Result2 o a b z
+
 -- the flag is the left set's flag, or set since the left set has a member and 0 is in the right one; otherwise it is not set
 pub record FlagIs (o : Op2) : Type 0 where
   pub kept : (a b : Set) → flag2 o true a b ≡ true
@@ -71,6 +76,12 @@ pub record Demand2 : Type 0 where
   pub abs-only : Only1 abs
   pub add-only : Only2 add
   pub sub-only : Only2 sub
+  pub not-only : Only1 not′
+  pub le-only : Only2 le
+  pub lt-only : Only2 lt
+  pub ne-only : OnlyFilled2 ne
+  pub and-only : OnlyFilled2 and
+  pub or-only : OnlyFilled2 or
   -- the members of union and intersect
   pub union-holds : (a b : Set) (z : ℤ) → Normal a → Normal b → (z ∈ a) ⊎ (z ∈ b) → z ∈ union a b
   pub union-only : (a b : Set) (z : ℤ) → Normal a → Normal b → z ∈ union a b → (z ∈ a) ⊎ (z ∈ b)

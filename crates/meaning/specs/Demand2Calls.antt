@@ -9,7 +9,7 @@ use mathlib.Core.List.{List}
 use mathlib.Core.Option.{some}
 use Prim.Native.Nat.{_≤_}
 use Rattle.meaning.specs.Lists.{All}
-use Rattle.meaning.specs.Number.{InRange, Op1, neg, abs, not′, Op2, add, sub, mul, div, rem, le, lt, ne, and, or, point1, point2}
+use Rattle.meaning.specs.Number.{InRange, Op1, Op2, add, sub, mul, div, rem, le, lt, ne, and, or, point1, point2}
 use Rattle.meaning.specs.NumberIntervals.{Set, _∈_, Normal, flag1, flag2, flat, intervals}
 use Rattle.meaning.specs.SetCalls.{Returned, returns1, out1, returns2, out2, returnsUnion, outUnion, returnsIntersect, outIntersect}
 use Rattle.meaning.specs.Demand2.{Result1, Result2}
@@ -28,39 +28,48 @@ pub record Stands (r : Returned) (out : List ℤ) : Type 0 where
   pub fits : r .count ≤ length out
   pub ends : Ends (take (r .count) out)
 
--- neg, abs, add and sub give nothing but point results
-abbrev pub exact1 : Op1 → Bool
-exact1 neg = true
-exact1 abs = true
-exact1 not′ = false
-
+-- add, sub, le and lt give nothing but point results
 abbrev pub exact2 : Op2 → Bool
 exact2 add = true
 exact2 sub = true
 exact2 mul = false
 exact2 div = false
 exact2 rem = false
-exact2 le = false
-exact2 lt = false
+exact2 le = true
+exact2 lt = true
 exact2 ne = false
 exact2 and = false
 exact2 or = false
 
--- one operand: the argument and the answer are normal, the answer holds every point result and, where the operation is exact, no other number; the flag is the one of the definitions
+-- and where both sets have a member, all do but mul, div and rem
+abbrev pub exactFilled2 : Op2 → Bool
+exactFilled2 add = true
+exactFilled2 sub = true
+exactFilled2 mul = false
+exactFilled2 div = false
+exactFilled2 rem = false
+exactFilled2 le = true
+exactFilled2 lt = true
+exactFilled2 ne = true
+exactFilled2 and = true
+exactFilled2 or = true
+
+-- one operand: the argument and the answer are normal, the answer holds every point result and no other number; the flag is the one of the definitions
 pub record Call1 (o : Op1) (left : List ℤ) (flag : Bool) (r : Returned) (out : List ℤ) : Type 0 where
   pub left-ends : Ends left
   pub stands : Stands r out
   pub holds : (x : ℤ) → x ∈ intervals left → point1 o x ∈ shown r out
-  pub only : exact1 o ≡ true → (z : ℤ) → z ∈ shown r out → Result1 o (intervals left) z
+  pub only : (z : ℤ) → z ∈ shown r out → Result1 o (intervals left) z
   pub flagged : r .flag ≡ flag1 o flag
 
--- two operands
+-- two operands: no other number where the operation is exact
 pub record Call2 (o : Op2) (left : List ℤ) (flag : Bool) (right : List ℤ) (r : Returned) (out : List ℤ) : Type 0 where
   pub left-ends : Ends left
   pub right-ends : Ends right
   pub stands : Stands r out
   pub holds : (x y z : ℤ) → x ∈ intervals left → y ∈ intervals right → point2 o x y ≡ some z → z ∈ shown r out
   pub only : exact2 o ≡ true → (z : ℤ) → z ∈ shown r out → Result2 o (intervals left) (intervals right) z
+  pub filled-only : exactFilled2 o ≡ true → (x y z : ℤ) → x ∈ intervals left → y ∈ intervals right → z ∈ shown r out → Result2 o (intervals left) (intervals right) z
   pub flagged : r .flag ≡ flag2 o flag (intervals left) (intervals right)
 
 -- union and intersect: the answer is normal, has just the members that `is` says, and no flag

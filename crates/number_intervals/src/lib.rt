@@ -71,7 +71,7 @@ pub fn rem(left: &[i64], flag: bool, right: &[i64], work: &mut [i64], out: &mut 
     joined(Op::Rem, left, flag, right, work, out)
 }
 
-// A set that holds what `not` gives of a member: none, 0, 1000 or both.
+// The set of what `not` gives of all members: none, 0, 1000 or both.
 pub fn not(left: &[i64], out: &mut [i64]) -> Reply
     ensures { λ r. ⌜ Gives1 point.not′ (now (left .entry)) (now (out .entry)) (returned r) (now (out .exit)) ⌝ }
     ensures { λ r. ⌜ Cased r ⌝ }
@@ -79,7 +79,7 @@ pub fn not(left: &[i64], out: &mut [i64]) -> Reply
     negated(left, out)
 }
 
-// A set that holds what `and` gives of two members: none, 0, 1000 or both.
+// A set that holds what `and` gives of all members: none, 0, 1000 or both; it may hold more where a set is empty.
 pub fn and(left: &[i64], right: &[i64], out: &mut [i64]) -> Reply
     ensures { λ r. ⌜ Gives2 point.and (now (left .entry)) (now (right .entry)) (now (out .entry)) (returned r) (now (out .exit)) ⌝ }
     ensures { λ r. ⌜ Cased r ⌝ }
@@ -87,7 +87,7 @@ pub fn and(left: &[i64], right: &[i64], out: &mut [i64]) -> Reply
     related(Relation::And, left, right, out)
 }
 
-// A set that holds what `or` gives of two members: none, 0, 1000 or both.
+// A set that holds what `or` gives of all members: none, 0, 1000 or both; it may hold more where a set is empty.
 pub fn or(left: &[i64], right: &[i64], out: &mut [i64]) -> Reply
     ensures { λ r. ⌜ Gives2 point.or (now (left .entry)) (now (right .entry)) (now (out .entry)) (returned r) (now (out .exit)) ⌝ }
     ensures { λ r. ⌜ Cased r ⌝ }
@@ -95,7 +95,7 @@ pub fn or(left: &[i64], right: &[i64], out: &mut [i64]) -> Reply
     related(Relation::Or, left, right, out)
 }
 
-// A set that holds what `<=` gives of two members: none, 0, 1000 or both.
+// The set of what `<=` gives of all members: none, 0, 1000 or both.
 pub fn int_le(left: &[i64], right: &[i64], out: &mut [i64]) -> Reply
     ensures { λ r. ⌜ Gives2 point.le (now (left .entry)) (now (right .entry)) (now (out .entry)) (returned r) (now (out .exit)) ⌝ }
     ensures { λ r. ⌜ Cased r ⌝ }
@@ -103,7 +103,7 @@ pub fn int_le(left: &[i64], right: &[i64], out: &mut [i64]) -> Reply
     related(Relation::Le, left, right, out)
 }
 
-// A set that holds what `<` gives of two members: none, 0, 1000 or both.
+// The set of what `<` gives of all members: none, 0, 1000 or both.
 pub fn int_lt(left: &[i64], right: &[i64], out: &mut [i64]) -> Reply
     ensures { λ r. ⌜ Gives2 point.lt (now (left .entry)) (now (right .entry)) (now (out .entry)) (returned r) (now (out .exit)) ⌝ }
     ensures { λ r. ⌜ Cased r ⌝ }
@@ -111,7 +111,7 @@ pub fn int_lt(left: &[i64], right: &[i64], out: &mut [i64]) -> Reply
     related(Relation::Lt, left, right, out)
 }
 
-// A set that holds what `!=` gives of two members: 0, 1000 or both; 1000 where a set is empty.
+// A set that holds what `!=` gives of all members: 0, 1000 or both; 1000 where a set is empty.
 pub fn int_ne(left: &[i64], right: &[i64], out: &mut [i64]) -> Reply
     ensures { λ r. ⌜ Gives2 point.ne (now (left .entry)) (now (right .entry)) (now (out .entry)) (returned r) (now (out .exit)) ⌝ }
     ensures { λ r. ⌜ Cased r ⌝ }

@@ -76,12 +76,7 @@ loop-again c =
     let b = c .before .before .before .before in
     let a = b .before .before in
     let h : a .loop .i + 2 ≤ length (a .before .args .left .now) = omega (arith, b .before .loop-test .taken, a .loop .inv .0) in
-    let w =
-    rw (
-      back (end-at (a .before .args .left .now) (a .loop .i)) (b .a .given),
-      back (end-at (a .before .args .left .now) (a .loop .i + 1))
-          (c .before .before .before .b .given),
-    ) at (c .before .row .ensures) in
+    let w = rw (back (end-at (a .before .args .left .now) (a .loop .i)) (b .a .given), back (end-at (a .before .args .left .now) (a .loop .i + 1)) (c .before .before .before .b .given)) at (c .before .row .ensures) in
     (refl, a .loop .inv .1, fill-next (a .loop .inv .2) h w (row-few (a .before .args .op) (a .before .args .right .now) w (next-proper (a .loop .inv .2) h) (a .loop .inv .1)))
 
 same-length : tie.Need-same-length Inv-loop μ-loop

@@ -77,12 +77,7 @@ loop-again c =
     let b = c .before .before .before .before in
     let a = b .before .before in
     let h : a .loop .j + 2 ≤ length (a .before .args .right .now) = omega (arith, b .before .loop-test .taken, a .loop .inv .0) in
-    let w =
-    rw (
-      back (end-at (a .before .args .right .now) (a .loop .j)) (b .c .given),
-      back (end-at (a .before .args .right .now) (a .loop .j + 1))
-          (c .before .before .before .d .given),
-    ) at (c .before .pair .ensures) in
+    let w = rw (back (end-at (a .before .args .right .now) (a .loop .j)) (b .c .given), back (end-at (a .before .args .right .now) (a .loop .j + 1)) (c .before .before .before .d .given)) at (c .before .pair .ensures) in
     (refl, a .loop .inv .1, fill-next (a .loop .inv .2) h w (pair-few (a .before .args .op) w (a .loop .inv .1) (next-proper (a .loop .inv .2) h)))
 
 same-length : tie.Need-same-length Inv-loop μ-loop

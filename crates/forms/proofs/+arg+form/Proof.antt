@@ -51,24 +51,7 @@ abbrev arg-in : ℕ → arg-lts.Claims
 arg-in t = (at-reads.Asked, at-reads.Learnt, form-below t, form.Post, read-literal-reads.Asked, read-literal-reads.Learnt)
 
 abbrev form-in : ℕ → form-lts.Claims
-form-in t = (
-  start-reads.Asked,
-  start-reads.Learnt,
-  read-head-reads.Asked,
-  read-head-reads.Learnt,
-  tail-reads.Asked,
-  tail-reads.Learnt,
-  read-register-reads.Asked,
-  read-register-reads.Learnt,
-  closed-reads.Asked,
-  closed-reads.Learnt,
-  arg-below t,
-  arg.Post,
-  at-reads.Asked,
-  at-reads.Learnt,
-  either-reads.Asked,
-  either-reads.Learnt,
-)
+form-in t = (start-reads.Asked, start-reads.Learnt, read-head-reads.Asked, read-head-reads.Learnt, tail-reads.Asked, tail-reads.Learnt, read-register-reads.Asked, read-register-reads.Learnt, closed-reads.Asked, closed-reads.Learnt, arg-below t, arg.Post, at-reads.Asked, at-reads.Learnt, either-reads.Asked, either-reads.Learnt)
 
 arg-at-requires : (t : ℕ) → arg-lts.Need-at-requires (arg-in t) (arg-at t) arg.Post
 arg-at-requires t c κs = search needs

@@ -61,26 +61,7 @@ abbrev eval-arg-in : ℕ → eval-arg-lts.Claims
 eval-arg-in t = (at-reads.Asked, at-reads.Learnt, eval-form-below t, eval-form.Post, read-literal-reads.Asked, read-literal-reads.Learnt)
 
 abbrev eval-form-in : ℕ → eval-form-lts.Claims
-eval-form-in t = (
-  start-reads.Asked,
-  start-reads.Learnt,
-  read-head-reads.Asked,
-  read-head-reads.Learnt,
-  tail-reads.Asked,
-  tail-reads.Learnt,
-  read-register-reads.Asked,
-  read-register-reads.Learnt,
-  closed-reads.Asked,
-  closed-reads.Learnt,
-  eval-arg-below t,
-  eval-arg.Post,
-  one-reads.Asked,
-  one-reads.Learnt,
-  at-reads.Asked,
-  at-reads.Learnt,
-  two-reads.Asked,
-  two-reads.Learnt,
-)
+eval-form-in t = (start-reads.Asked, start-reads.Learnt, read-head-reads.Asked, read-head-reads.Learnt, tail-reads.Asked, tail-reads.Learnt, read-register-reads.Asked, read-register-reads.Learnt, closed-reads.Asked, closed-reads.Learnt, eval-arg-below t, eval-arg.Post, one-reads.Asked, one-reads.Learnt, at-reads.Asked, at-reads.Learnt, two-reads.Asked, two-reads.Learnt)
 
 eval-arg-at-requires : (t : ℕ) → eval-arg-lts.Need-at-requires (eval-arg-in t) (eval-arg-at t) eval-arg.Post
 eval-arg-at-requires t c κs = search needs

@@ -60,46 +60,10 @@ abbrev set-form-below : ℕ → In 3 set-form-kinds.ps
 set-form-below t = and 3 set-form-kinds.ps (falls 3 set-form-kinds.ps _<_ μ-set-form t) set-form.Pre
 
 abbrev set-arg-in : ℕ → set-arg-lts.Claims
-set-arg-in t = (
-  at-reads.Asked,
-  at-reads.Learnt,
-  unread-reads.Asked,
-  unread-reads.Learnt,
-  set-form-below t,
-  set-form.Post,
-  read-literal-reads.Asked,
-  read-literal-reads.Learnt,
-  one-interval-reads.Asked,
-  one-interval-reads.Learnt,
-  taken-reads.Asked,
-  taken-reads.Learnt,
-)
+set-arg-in t = (at-reads.Asked, at-reads.Learnt, unread-reads.Asked, unread-reads.Learnt, set-form-below t, set-form.Post, read-literal-reads.Asked, read-literal-reads.Learnt, one-interval-reads.Asked, one-interval-reads.Learnt, taken-reads.Asked, taken-reads.Learnt)
 
 abbrev set-form-in : ℕ → set-form-lts.Claims
-set-form-in t = (
-  start-reads.Asked,
-  start-reads.Learnt,
-  read-head-reads.Asked,
-  read-head-reads.Learnt,
-  tail-reads.Asked,
-  tail-reads.Learnt,
-  read-register-reads.Asked,
-  read-register-reads.Learnt,
-  register-set-reads.Asked,
-  register-set-reads.Learnt,
-  closed-reads.Asked,
-  closed-reads.Learnt,
-  unread-reads.Asked,
-  unread-reads.Learnt,
-  set-arg-below t,
-  set-arg.Post,
-  apply1-reads.Asked,
-  apply1-reads.Learnt,
-  at-reads.Asked,
-  at-reads.Learnt,
-  apply2-reads.Asked,
-  apply2-reads.Learnt,
-)
+set-form-in t = (start-reads.Asked, start-reads.Learnt, read-head-reads.Asked, read-head-reads.Learnt, tail-reads.Asked, tail-reads.Learnt, read-register-reads.Asked, read-register-reads.Learnt, register-set-reads.Asked, register-set-reads.Learnt, closed-reads.Asked, closed-reads.Learnt, unread-reads.Asked, unread-reads.Learnt, set-arg-below t, set-arg.Post, apply1-reads.Asked, apply1-reads.Learnt, at-reads.Asked, at-reads.Learnt, apply2-reads.Asked, apply2-reads.Learnt)
 
 set-arg-at-requires : (t : ℕ) → set-arg-lts.Need-at-requires (set-arg-in t) (set-arg-at t) set-arg.Post
 set-arg-at-requires t c κs = search needs

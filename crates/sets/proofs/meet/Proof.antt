@@ -106,12 +106,8 @@ loop-less c = search needs
 loop-again : tie.Need-loop-again Inv-loop μ-loop
 loop-again c =
     let x = c .before .before .before .before .before .before in
-    let h = x .before .before .before .before .before .before .before .before .loop .inv in (
-      h .0,
-      h .1,
-      turn-left-out (h .2) (turn x) (x .le .ensures) (c .before .before .before .before .before .if2 .taken) (c .before .before .before .before .le2 .ensures)
-          (c .before .before .before .if3 .taken) (c .before .put-pair .ensures),
-    )
+    let h = x .before .before .before .before .before .before .before .before .loop .inv in
+    (h .0, h .1, turn-left-out (h .2) (turn x) (x .le .ensures) (c .before .before .before .before .before .if2 .taken) (c .before .before .before .before .le2 .ensures) (c .before .before .before .if3 .taken) (c .before .put-pair .ensures))
 
 add-i-2 : tie.Need-add-i-2 Inv-loop μ-loop
 add-i-2 c = search needs
@@ -143,12 +139,8 @@ loop-less-3 c = search needs
 loop-again-3 : tie.Need-loop-again-3 Inv-loop μ-loop
 loop-again-3 c =
     let x = c .before .before .before .before .before .before in
-    let h = x .before .before .before .before .before .before .before .before .loop .inv in (
-      h .0,
-      h .1,
-      turn-right-out (h .2) (turn x) (x .le .ensures) (c .before .before .before .before .before .if2 .left) (c .before .before .before .before .le3 .ensures)
-          (c .before .before .before .if4 .taken) (c .before .put-pair2 .ensures),
-    )
+    let h = x .before .before .before .before .before .before .before .before .loop .inv in
+    (h .0, h .1, turn-right-out (h .2) (turn x) (x .le .ensures) (c .before .before .before .before .before .if2 .left) (c .before .before .before .before .le3 .ensures) (c .before .before .before .if4 .taken) (c .before .put-pair2 .ensures))
 
 add-j-2 : tie.Need-add-j-2 Inv-loop μ-loop
 add-j-2 c = search needs
