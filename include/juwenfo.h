@@ -65,7 +65,7 @@ int64_t juwenfo_number_ne(int64_t x, int64_t y);
  * After 1, 2 and 3 every slice is as lent. After 4 out is as lent. After success the first `count` numbers of out hold the answer, and the rest is
  * as lent. After success and after 4 the first NEED numbers of work are 0, and the rest is as lent. left and right are never written.
  * NEED is 2 * K * n * m for n and m intervals of left and right, with m = 1 where there is no right set; K stands at each call.
- * An out of NEED numbers is never too short, nor one of left_len + right_len for union and intersect.
+ * An out of NEED numbers is never too short, nor one of 4 for not, and, or, le, lt and ne, nor one of left_len + right_len for union and intersect.
  */
 
 /* number 0: `count` numbers were written to out, and the answer's flag. Else the refusal's number, count 0 and flag false. */

@@ -22,7 +22,7 @@ use Rattle.laws.proofs.Demand2.{demand2}
 
 -- ---- an argument that is not refused is normal
 
-unrefused : (s : List ℤ) → refusal s ≡ 0 → normal s ≡ true
+pub unrefused : (s : List ℤ) → refusal s ≡ 0 → normal s ≡ true
 unfolding refusal
 unrefused s e = go (ltb 32 (length s)) (normal s) refl e
   where
@@ -31,7 +31,7 @@ unrefused s e = go (ltb 32 (length s)) (normal s) refl e
     go false true p e = p
     go false false p e = absurd (omega arith)
 
-unrefused2 : (left right : List ℤ) → refusal2 left right ≡ 0 → (refusal left ≡ 0) × (refusal right ≡ 0)
+pub unrefused2 : (left right : List ℤ) → refusal2 left right ≡ 0 → (refusal left ≡ 0) × (refusal right ≡ 0)
 unfolding refusal2
 unrefused2 left right e = go (eqb (refusal left) 0) refl e
   where
@@ -39,7 +39,7 @@ unrefused2 left right e = go (eqb (refusal left) 0) refl e
     go true p e = (eqb-true (refusal left) 0 p, e)
     go false p e = clash (eq-eqb (refusal left) 0 e) p
 
-argument-ends : (s : List ℤ) → All InRange s → refusal s ≡ 0 → Ends s
+pub argument-ends : (s : List ℤ) → All InRange s → refusal s ≡ 0 → Ends s
 argument-ends s h e = record { normal = ends-normal s (unrefused s e) h; whole = flat-intervals s (unrefused s e) }
 
 -- ---- what a call that refuses nothing returns and writes

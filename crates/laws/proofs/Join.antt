@@ -13,7 +13,7 @@ use Rattle.laws.proofs.Members.{AllProper, not-in-none, between}
 
 -- ---- the three cases of insert
 
-insert-case
+pub insert-case
     : (P : Set → Type 0) (a b : ℤ) (i : Interval) (s : Set)
     → (sucℤ (i .hi) <ℤ a → P (i ∷ insert a b s))
     → (a ≤ℤ sucℤ (i .hi) → sucℤ b <ℤ i .lo → P (record { lo = a; hi = b } ∷ i ∷ s))

@@ -14,6 +14,7 @@ pub mod Fusion
 pub mod Holds
 pub mod Integers
 pub mod Join
+pub mod Lengths
 pub mod Machine
 pub mod Members
 pub mod Over

@@ -21,6 +21,7 @@ pub mod Demand3Calls
 pub mod ReadLaws
 pub mod CheckSets
 pub mod Verdicts
+pub mod Rooms
 pub mod Marked
 pub mod Readings
 pub mod SheetReadings

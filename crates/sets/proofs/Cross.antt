@@ -175,6 +175,19 @@ cross-normal (s ∷ e ∷ l) (c ∷ d ∷ r) n k =
     (λ p q. (q, after-cross d (s ∷ e ∷ l) r n (k .2) (inr (k .1)), cross-normal (s ∷ e ∷ l) r n (k .2)))
     (λ p q. cross-normal (s ∷ e ∷ l) r n (k .2))
 
+-- no longer than both lists together: each turn leaves an interval behind, and gives at most one
+pub cross-length : (l r : List ℤ) → length (cross l r) ≤ length l + length r
+unfolding cross
+cross-length [] r = omega arith
+cross-length (s ∷ []) r = omega arith
+cross-length (s ∷ e ∷ l) [] = omega arith
+cross-length (s ∷ e ∷ l) (c ∷ []) = omega arith
+cross-length (s ∷ e ∷ l) (c ∷ d ∷ r) =
+    let left = cross-length l (c ∷ d ∷ r) in
+    let right = cross-length (s ∷ e ∷ l) r in
+    cross-case s e l c d r (λ m. length m ≤ length (s ∷ e ∷ l) + length (c ∷ d ∷ r))
+    (λ p q. omega (arith, left)) (λ p q. omega (arith, left)) (λ p q. omega (arith, right)) (λ p q. omega (arith, right))
+
 -- the walk's answer is the intersection
 pub walked : (l r : List ℤ) → SetEnds l → SetEnds r → cross l r ≡ flat (intersect (intervals l) (intervals r))
 walked l r a b =

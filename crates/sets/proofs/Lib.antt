@@ -3,3 +3,4 @@ pub mod Cross
 pub mod Joining
 pub mod Merged
 pub mod Reading
+pub mod Rooms
