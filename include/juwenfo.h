@@ -2,8 +2,12 @@
  *
  * Numbers are counts of thousandths, from MIN (INT64_MIN) to MAX (INT64_MAX). A slice is a pointer and the length that follows it; a length counts
  * elements. A set of numbers is the ends of its intervals in a slice, start and end in turn, in order; it is normal if every start is at most its end
- * and at least one number is missing between neighbours. The empty set has length 0. A set's flag stands beside it: a div or rem on the way to it
- * had a divisor that may be 0. docs/SHEETS.md teaches sheets: forms, registers, `in`, `hold`, LO and HI.
+ * and at least one number is missing between neighbours. The empty set has length 0. docs/SHEETS.md teaches sheets: forms, registers, `in`, `hold`, LO
+ * and HI.
+ *
+ * A flag stands beside the set that a set call answers. div and rem set it where the left set has a member and the right set holds 0; they, neg, abs, add,
+ * sub and mul keep it set where it is lent set with the left set. No call asks for the right set's flag, and not, and, or, le, lt, ne, union and intersect
+ * answer false. So one flag does not speak for the calls before it: who chains calls keeps the OR of the flags of all answers on the way.
  *
  * Every call is total: it has no precondition on the numbers, bytes and lengths that it is given, and refuses by number instead (the listing by `fits`).
  * What the caller sees to, for every call: each pointer is good for the length that follows it (NULL only with length 0), and what is behind a
@@ -22,6 +26,18 @@
 #include <stdbool.h>
 #include <stddef.h>
 #include <stdint.h>
+
+#define JUWENFO_VERSION "0.1.0" /* the one place of it: the callers in Rust and Python take it from here */
+
+/* An answer that is dropped may be a refusal: compilers that know how warn of it. */
+#if (defined __cplusplus && __cplusplus >= 201703L) || (defined __STDC_VERSION__ && __STDC_VERSION__ >= 202311L)
+#define JUWENFO_ANSWERS [[nodiscard]]
+#elif defined __GNUC__
+#define JUWENFO_ANSWERS __attribute__((warn_unused_result))
+#else
+#define JUWENFO_ANSWERS
+#endif
+
 #ifdef __cplusplus
 extern "C" {
 #endif
@@ -42,22 +58,22 @@ typedef struct {
     bool there;
 } juwenfo_maybe;
 
-int64_t juwenfo_number_neg(int64_t x);                   /* wraps: that of MIN is MIN */
-int64_t juwenfo_number_abs(int64_t x);                   /* wraps: that of MIN is MIN */
-int64_t juwenfo_number_add(int64_t x, int64_t y);        /* wraps */
-int64_t juwenfo_number_sub(int64_t x, int64_t y);        /* wraps */
-int64_t juwenfo_number_mul(int64_t x, int64_t y);        /* wraps the product, then divides by 1000 */
-juwenfo_maybe juwenfo_number_div(int64_t x, int64_t y);  /* wraps 1000 times x, then divides, wrapping; none if y is 0 */
-juwenfo_maybe juwenfo_number_rem(int64_t x, int64_t y);  /* with the sign of x; none if y is 0 */
-juwenfo_maybe juwenfo_number_next(int64_t x);            /* none after MAX */
-juwenfo_maybe juwenfo_number_prev(int64_t x);            /* none before MIN */
-bool juwenfo_number_as_bool(int64_t x);                  /* x is not 0 */
-int64_t juwenfo_number_not(int64_t x);                   /* from here on: 1000 if it is so, else 0 */
-int64_t juwenfo_number_and(int64_t x, int64_t y);
-int64_t juwenfo_number_or(int64_t x, int64_t y);
-int64_t juwenfo_number_le(int64_t x, int64_t y);
-int64_t juwenfo_number_lt(int64_t x, int64_t y);
-int64_t juwenfo_number_ne(int64_t x, int64_t y);
+JUWENFO_ANSWERS int64_t juwenfo_number_neg(int64_t x);                   /* wraps: that of MIN is MIN */
+JUWENFO_ANSWERS int64_t juwenfo_number_abs(int64_t x);                   /* wraps: that of MIN is MIN */
+JUWENFO_ANSWERS int64_t juwenfo_number_add(int64_t x, int64_t y);        /* wraps */
+JUWENFO_ANSWERS int64_t juwenfo_number_sub(int64_t x, int64_t y);        /* wraps */
+JUWENFO_ANSWERS int64_t juwenfo_number_mul(int64_t x, int64_t y);        /* wraps the product, then divides by 1000 */
+JUWENFO_ANSWERS juwenfo_maybe juwenfo_number_div(int64_t x, int64_t y);  /* wraps 1000 times x, then divides, wrapping; none if y is 0 */
+JUWENFO_ANSWERS juwenfo_maybe juwenfo_number_rem(int64_t x, int64_t y);  /* with the sign of x; none if y is 0 */
+JUWENFO_ANSWERS juwenfo_maybe juwenfo_number_next(int64_t x);            /* none after MAX */
+JUWENFO_ANSWERS juwenfo_maybe juwenfo_number_prev(int64_t x);            /* none before MIN */
+JUWENFO_ANSWERS bool juwenfo_number_as_bool(int64_t x);                  /* x is not 0 */
+JUWENFO_ANSWERS int64_t juwenfo_number_not(int64_t x);                   /* from here on: 1000 if it is so, else 0 */
+JUWENFO_ANSWERS int64_t juwenfo_number_and(int64_t x, int64_t y);
+JUWENFO_ANSWERS int64_t juwenfo_number_or(int64_t x, int64_t y);
+JUWENFO_ANSWERS int64_t juwenfo_number_le(int64_t x, int64_t y);
+JUWENFO_ANSWERS int64_t juwenfo_number_lt(int64_t x, int64_t y);
+JUWENFO_ANSWERS int64_t juwenfo_number_ne(int64_t x, int64_t y);
 
 /* ---- set operations
  *
@@ -65,7 +81,8 @@ int64_t juwenfo_number_ne(int64_t x, int64_t y);
  * After 1, 2 and 3 every slice is as lent. After 4 out is as lent. After success the first `count` numbers of out hold the answer, and the rest is
  * as lent. After success and after 4 the first NEED numbers of work are 0, and the rest is as lent. left and right are never written.
  * NEED is 2 * K * n * m for n and m intervals of left and right, with m = 1 where there is no right set; K stands at each call.
- * An out of NEED numbers is never too short, nor one of 4 for not, and, or, le, lt and ne, nor one of left_len + right_len for union and intersect.
+ * Never too short is an out of NEED numbers for neg, abs, add, sub, mul, div and rem, of 4 for not, and, or, le, lt and ne, and of left_len + right_len
+ * for union and intersect.
  */
 
 /* number 0: `count` numbers were written to out, and the answer's flag. Else the refusal's number, count 0 and flag false. */
@@ -76,29 +93,29 @@ typedef struct {
 } juwenfo_answer;
 
 /* K = 2. The flag of the answer is the left set's. neg and abs hold just the results of the members. */
-juwenfo_answer juwenfo_set_neg(const int64_t *left, size_t left_len, bool flag, int64_t *work, size_t work_len, int64_t *out, size_t out_len);
-juwenfo_answer juwenfo_set_abs(const int64_t *left, size_t left_len, bool flag, int64_t *work, size_t work_len, int64_t *out, size_t out_len);
+JUWENFO_ANSWERS juwenfo_answer juwenfo_set_neg(const int64_t *left, size_t left_len, bool flag, int64_t *work, size_t work_len, int64_t *out, size_t out_len);
+JUWENFO_ANSWERS juwenfo_answer juwenfo_set_abs(const int64_t *left, size_t left_len, bool flag, int64_t *work, size_t work_len, int64_t *out, size_t out_len);
 
 /* K = 2. The flag of the answer is the left set's. add and sub hold just the results of the members; mul holds at least these. */
-juwenfo_answer juwenfo_set_add(const int64_t *left, size_t left_len, bool flag, const int64_t *right, size_t right_len, int64_t *work, size_t work_len, int64_t *out, size_t out_len);
-juwenfo_answer juwenfo_set_sub(const int64_t *left, size_t left_len, bool flag, const int64_t *right, size_t right_len, int64_t *work, size_t work_len, int64_t *out, size_t out_len);
-juwenfo_answer juwenfo_set_mul(const int64_t *left, size_t left_len, bool flag, const int64_t *right, size_t right_len, int64_t *work, size_t work_len, int64_t *out, size_t out_len);
+JUWENFO_ANSWERS juwenfo_answer juwenfo_set_add(const int64_t *left, size_t left_len, bool flag, const int64_t *right, size_t right_len, int64_t *work, size_t work_len, int64_t *out, size_t out_len);
+JUWENFO_ANSWERS juwenfo_answer juwenfo_set_sub(const int64_t *left, size_t left_len, bool flag, const int64_t *right, size_t right_len, int64_t *work, size_t work_len, int64_t *out, size_t out_len);
+JUWENFO_ANSWERS juwenfo_answer juwenfo_set_mul(const int64_t *left, size_t left_len, bool flag, const int64_t *right, size_t right_len, int64_t *work, size_t work_len, int64_t *out, size_t out_len);
 
 /* K = 12 for div, 16 for rem. The flag of the answer is set too where a left set with members meets a right set that holds 0. */
-juwenfo_answer juwenfo_set_div(const int64_t *left, size_t left_len, bool flag, const int64_t *right, size_t right_len, int64_t *work, size_t work_len, int64_t *out, size_t out_len);
-juwenfo_answer juwenfo_set_rem(const int64_t *left, size_t left_len, bool flag, const int64_t *right, size_t right_len, int64_t *work, size_t work_len, int64_t *out, size_t out_len);
+JUWENFO_ANSWERS juwenfo_answer juwenfo_set_div(const int64_t *left, size_t left_len, bool flag, const int64_t *right, size_t right_len, int64_t *work, size_t work_len, int64_t *out, size_t out_len);
+JUWENFO_ANSWERS juwenfo_answer juwenfo_set_rem(const int64_t *left, size_t left_len, bool flag, const int64_t *right, size_t right_len, int64_t *work, size_t work_len, int64_t *out, size_t out_len);
 
 /* No work is needed, so never 3; the flag of the answer is false. not, and, or, le, lt and ne give a set of 0 and 1000: at most 4 numbers.
  * Of an empty set not, le and lt give the empty set, and ne gives 1000. and with an empty set gives 0 if the other set holds 0, else the empty set; or gives 1000
  * if the other set holds a number that is not 0, else the empty set. */
-juwenfo_answer juwenfo_set_not(const int64_t *left, size_t left_len, int64_t *out, size_t out_len);
-juwenfo_answer juwenfo_set_and(const int64_t *left, size_t left_len, const int64_t *right, size_t right_len, int64_t *out, size_t out_len);
-juwenfo_answer juwenfo_set_or(const int64_t *left, size_t left_len, const int64_t *right, size_t right_len, int64_t *out, size_t out_len);
-juwenfo_answer juwenfo_set_le(const int64_t *left, size_t left_len, const int64_t *right, size_t right_len, int64_t *out, size_t out_len);
-juwenfo_answer juwenfo_set_lt(const int64_t *left, size_t left_len, const int64_t *right, size_t right_len, int64_t *out, size_t out_len);
-juwenfo_answer juwenfo_set_ne(const int64_t *left, size_t left_len, const int64_t *right, size_t right_len, int64_t *out, size_t out_len);
-juwenfo_answer juwenfo_set_union(const int64_t *left, size_t left_len, const int64_t *right, size_t right_len, int64_t *out, size_t out_len);     /* just the members of either set */
-juwenfo_answer juwenfo_set_intersect(const int64_t *left, size_t left_len, const int64_t *right, size_t right_len, int64_t *out, size_t out_len); /* just the members of both sets */
+JUWENFO_ANSWERS juwenfo_answer juwenfo_set_not(const int64_t *left, size_t left_len, int64_t *out, size_t out_len);
+JUWENFO_ANSWERS juwenfo_answer juwenfo_set_and(const int64_t *left, size_t left_len, const int64_t *right, size_t right_len, int64_t *out, size_t out_len);
+JUWENFO_ANSWERS juwenfo_answer juwenfo_set_or(const int64_t *left, size_t left_len, const int64_t *right, size_t right_len, int64_t *out, size_t out_len);
+JUWENFO_ANSWERS juwenfo_answer juwenfo_set_le(const int64_t *left, size_t left_len, const int64_t *right, size_t right_len, int64_t *out, size_t out_len);
+JUWENFO_ANSWERS juwenfo_answer juwenfo_set_lt(const int64_t *left, size_t left_len, const int64_t *right, size_t right_len, int64_t *out, size_t out_len);
+JUWENFO_ANSWERS juwenfo_answer juwenfo_set_ne(const int64_t *left, size_t left_len, const int64_t *right, size_t right_len, int64_t *out, size_t out_len);
+JUWENFO_ANSWERS juwenfo_answer juwenfo_set_union(const int64_t *left, size_t left_len, const int64_t *right, size_t right_len, int64_t *out, size_t out_len);     /* just the members of either set */
+JUWENFO_ANSWERS juwenfo_answer juwenfo_set_intersect(const int64_t *left, size_t left_len, const int64_t *right, size_t right_len, int64_t *out, size_t out_len); /* just the members of both sets */
 
 /* ---- sheets */
 
@@ -109,7 +126,7 @@ typedef struct {
 } juwenfo_part;
 
 /* Line `n` of any bytes, counted from 1, without its LF (byte 10). Line 0, and a line that no LF ends, are empty: start 0, length 0. Refuses nothing. */
-juwenfo_part juwenfo_line(const uint8_t *text, size_t text_len, size_t n);
+JUWENFO_ANSWERS juwenfo_part juwenfo_line(const uint8_t *text, size_t text_len, size_t n);
 
 /* number 0: fine, `count` lines, line 0. Else the number of the refusal or finding, its line (0 for 3 and 5), and count 0. */
 typedef struct {
@@ -119,17 +136,17 @@ typedef struct {
 } juwenfo_verdict;
 
 /* Reads a sheet without working it: 5 over the whole text, then line by line 6, 7, LO past HI (6), 8. */
-juwenfo_verdict juwenfo_judge(const uint8_t *text, size_t text_len);
+JUWENFO_ANSWERS juwenfo_verdict juwenfo_judge(const uint8_t *text, size_t text_len);
 
 /* Checks a sheet: 3 (sets shorter than JUWENFO_SETS or work than JUWENFO_WORK), the refusals of juwenfo_judge, then the lines in order: 9, 20, 21.
  * number 0 is a pass: the first JUWENFO_SETS numbers of sets hold the set of each register after the last line, unused ones 0.
  * Otherwise sets is as lent. After a pass, 9, 20 and 21 the first JUWENFO_WORK numbers of work are 0; after 3 and 5 to 8 work is as lent. */
-juwenfo_verdict juwenfo_check(const uint8_t *text, size_t text_len, int64_t *sets, size_t sets_len, int64_t *work, size_t work_len);
+JUWENFO_ANSWERS juwenfo_verdict juwenfo_check(const uint8_t *text, size_t text_len, int64_t *sets, size_t sets_len, int64_t *work, size_t work_len);
 
 /* Runs a sheet on the numbers lent for its `in` lines: 3 (fewer than JUWENFO_LENT), the refusals of juwenfo_judge, then the lines in order: 20, 21, 22.
  * number 0: done, and the first JUWENFO_LENT numbers are the registers after the last line. After 20, 21 or 22 they are the registers before that
  * line. After a refusal all are as lent. */
-juwenfo_verdict juwenfo_run(const uint8_t *text, size_t text_len, int64_t *lent, size_t lent_len);
+JUWENFO_ANSWERS juwenfo_verdict juwenfo_run(const uint8_t *text, size_t text_len, int64_t *lent, size_t lent_len);
 
 /* fits: `count` bytes were written to out. Else the listing is longer than out, and count is 0. */
 typedef struct {
@@ -139,7 +156,7 @@ typedef struct {
 
 /* The listing of any text, what the program prints for it: "pass N" and the sets of the registers with an `in` or a `put`, or "refused K L" or
  * "stop K L"; each line ends with LF, and no byte 0 follows. Refuses nothing. The rest of out is as lent; all of it, if the listing does not fit. */
-juwenfo_listed juwenfo_listing(const uint8_t *text, size_t text_len, uint8_t *out, size_t out_len);
+JUWENFO_ANSWERS juwenfo_listed juwenfo_listing(const uint8_t *text, size_t text_len, uint8_t *out, size_t out_len);
 
 #ifdef __cplusplus
 }

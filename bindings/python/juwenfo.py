@@ -3,7 +3,7 @@
 A shared object is made from the archive, once:
 
     rt staticlib exports
-    cc -shared -o libjuwenfo.so -Wl,--whole-archive target/staticlib/libexports.a -Wl,--no-whole-archive
+    cc -shared -I include -o libjuwenfo.so bindings/python/version.c -Wl,--whole-archive target/staticlib/libexports.a -Wl,--no-whole-archive
 
 It is looked for at the path in JUWENFO_LIBRARY, else beside this file.
 
@@ -17,21 +17,42 @@ MIN, MAX, ONE = -(1 << 63), (1 << 63) - 1, 1000
 REGISTERS, SLOT, WORK = 16, 33, 8192
 LISTING = 11081  # bytes that hold any listing
 
+WORDS = {  # each number that there is, with what it means: 1 to 9 are refusals, 20 to 22 findings
+    1: "a set has an odd number of ends, or is not sorted with a gap between its intervals",
+    2: "a set has over 16 intervals",
+    3: "a lent slice is too short to work in",
+    4: "the answer is longer than `out`",
+    5: "over 256 lines, a line over 120 bytes, or the last line feed is missing",
+    6: "the line is outside the grammar, or its LO is past its HI",
+    7: "a number is beyond MIN..MAX",
+    8: "an `in` behind another kind of line, or a second one for a register",
+    9: "a form's set has over 16 intervals",
+    20: "a divisor may be 0, or is 0 in a run",
+    21: "a held register may have a value outside, or has one in a run",
+    22: "a lent number is outside its `in` line",
+}
+
 
 class Refused(Exception):
     """A set call was refused: 1 not normal, 2 more than 16 intervals."""
 
     def __init__(self, number):
-        super().__init__("refused with %d" % number)
+        super().__init__(number)
         self.number = number
+
+    def __str__(self):
+        return "refused with %d: %s" % (self.number, WORDS.get(self.number, "unknown"))
 
 
 class Trouble(Exception):
     """A sheet's refusal (5 to 9) or finding (20 to 22), and its line; of a run that stops also the 16 registers before that line."""
 
     def __init__(self, number, line, registers=()):
-        super().__init__("number %d at line %d" % (number, line))
+        super().__init__(number, line, registers)
         self.number, self.line, self.registers = number, line, registers
+
+    def __str__(self):
+        return "number %d at line %d: %s" % (self.number, self.line, WORDS.get(self.number, "unknown"))
 
 
 class _Maybe(ctypes.Structure):
@@ -55,6 +76,7 @@ class _Listed(ctypes.Structure):
 
 
 _lib = ctypes.CDLL(os.environ.get("JUWENFO_LIBRARY") or os.path.join(os.path.dirname(os.path.abspath(__file__)), "libjuwenfo.so"))
+VERSION = ctypes.string_at(ctypes.addressof(ctypes.c_char.in_dll(_lib, "juwenfo_version"))).decode()
 _SLICE = [ctypes.POINTER(ctypes.c_int64), ctypes.c_size_t]
 _TEXT = [ctypes.c_char_p, ctypes.c_size_t]
 _BYTES = [ctypes.POINTER(ctypes.c_char), ctypes.c_size_t]
@@ -148,10 +170,10 @@ def _set_plain(name, operands):
     return call
 
 
-# A set and its flag; the keyword `flag` is the left set's.
+# A set and its flag; the keyword `flag` is the left set's, and no call asks for the right set's.
 set_neg, set_abs = (_set_work(n, 1) for n in ("neg", "abs"))
 set_add, set_sub, set_mul, set_div, set_rem = (_set_work(n, 2) for n in ("add", "sub", "mul", "div", "rem"))
-# A set alone: the flag of these is always false.
+# A set alone: the flag of these is always false. So who chains calls keeps the OR of the flags of all answers on the way.
 set_not = _set_plain("not", 1)
 set_and, set_or, set_le, set_lt, set_ne = (_set_plain(n, 2) for n in ("and", "or", "le", "lt", "ne"))
 set_union, set_intersect = (_set_plain(n, 2) for n in ("union", "intersect"))
@@ -193,6 +215,8 @@ def check(text):
 
 def run(text, lent=()):
     """Runs a sheet on the numbers lent to registers 0, 1 .. (0 where none is): the 16 numbers after the last line. Trouble 20 to 22 has those before it."""
+    if len(lent) > REGISTERS:
+        raise ValueError("%d numbers are lent to %d registers" % (len(lent), REGISTERS))
     numbers = _slice(list(lent) + [0] * (REGISTERS - len(lent)))
     v = _run(text, len(text), numbers, len(numbers))
     if v.number >= 20:

@@ -1,9 +1,11 @@
 """Every call once, with an answer that document 01 marks or that is plain to see."""
+import os
 import unittest
 
 import juwenfo as j
 from juwenfo import MAX, MIN
 
+HEADER = os.path.join(os.path.dirname(os.path.abspath(__file__)), "../../include/juwenfo.h")
 SHEET = b"(in 0 -1 2)\n(put 1 (mul (reg 0) 2.5))\n(hold 1 -3 5)\n"
 
 
@@ -45,10 +47,19 @@ class Calls(unittest.TestCase):
         with self.assertRaises(j.Trouble) as e:
             j.run(b"(in 0 0 9)\n(put 1 2)\n(hold 0 0 1)\n", [5000])
         self.assertEqual((e.exception.number, e.exception.line, e.exception.registers[:3]), (21, 3, [5000, 2000, 0]))
+        self.assertRaises(ValueError, j.run, SHEET, [0] * 17)
 
     def test_listings(self):
         self.assertEqual(j.listing(SHEET), b"pass 3\nr0 -1000..2000\nr1 -2500..5000\n")
         self.assertEqual([j.listing(b""), j.listing(b"x"), j.listing(b"(hold 0 1 2)\n"), j.listing(b"\0\n")], [b"pass 0\n", b"refused 5 0\n", b"stop 21 1\n", b"refused 6 1\n"])
+
+    def test_words_and_version(self):
+        self.assertEqual(list(j.WORDS), [*range(1, 10), 20, 21, 22])
+        for number, words in j.WORDS.items():
+            self.assertEqual(str(j.Trouble(number, 3)), "number %d at line 3: %s" % (number, words))
+            self.assertEqual(str(j.Refused(number)), "refused with %d: %s" % (number, words))
+        with open(HEADER) as f:
+            self.assertIn('#define JUWENFO_VERSION "%s"' % j.VERSION, f.read())
 
 
 if __name__ == "__main__":

@@ -1,16 +1,37 @@
 //! Checks a sheet and prints the set of each register: cargo run --example check ../../samples/production.sheet
-use juwenfo::{check, ends, line, SETS, WORK};
+//! The status is 0 after a pass, 1 after a refusal or a finding, and 2 where there is no answer.
+use juwenfo::{check, ends, line, LENT, SETS, WORK};
+use std::io::{self, Write};
+use std::process::ExitCode;
 
-fn main() {
-    let file = std::env::args().nth(1).expect("usage: check SHEET");
-    let text = std::fs::read(file).expect("the sheet cannot be read");
+fn fail(why: &str) -> ExitCode {
+    let _ = writeln!(io::stderr(), "{why}");
+    ExitCode::from(2)
+}
+
+fn show(text: &[u8], out: &mut impl Write) -> io::Result<ExitCode> {
     let (mut sets, mut work) = (vec![0; SETS], vec![0; WORK]);
-    if let Err(t) = check(&text, &mut sets, &mut work) {
-        println!("number {} at line {}: {}", t.number, t.line, String::from_utf8_lossy(line(&text, t.line)));
-        std::process::exit(1);
+    let verdict = check(text, &mut sets, &mut work);
+    if let Err(t) = verdict {
+        write!(out, "number {} at line {}: ", t.number, t.line)?;
+        out.write_all(line(text, t.line))?;
+        writeln!(out)?;
+    } else {
+        for r in 0..LENT {
+            write!(out, "r{r}")?;
+            for interval in ends(&sets, r).chunks(2) {
+                write!(out, " {}..{}", interval[0], interval[1])?;
+            }
+            writeln!(out)?;
+        }
     }
-    for r in 0..16 {
-        let set: Vec<String> = ends(&sets, r).chunks(2).map(|c| format!("{}..{}", c[0], c[1])).collect();
-        println!("r{r} {}", set.join(" "));
-    }
+    out.flush()?;
+    Ok(ExitCode::from(verdict.is_err() as u8))
+}
+
+fn main() -> ExitCode {
+    let words: Vec<_> = std::env::args_os().skip(1).collect();
+    let [file] = &words[..] else { return fail("usage: check SHEET") };
+    let Ok(text) = std::fs::read(file) else { return fail("the sheet cannot be read") };
+    show(&text, &mut io::BufWriter::new(io::stdout())).unwrap_or_else(|_| fail("the answer cannot be written"))
 }

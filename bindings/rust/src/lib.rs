@@ -5,6 +5,12 @@
 pub mod number;
 pub mod set;
 pub mod sys;
+mod words;
+
+pub use words::WORDS;
+
+/// The version of the library and of its callers, from include/juwenfo.h.
+pub const VERSION: &str = env!("JUWENFO_VERSION");
 
 /// Numbers that the check needs for its sets: [`SLOT`] for each of the 16 registers.
 pub const SETS: usize = 528;
@@ -34,6 +40,7 @@ fn verdict(v: sys::Verdict) -> Result<usize, Trouble> {
 }
 
 /// Line `n` of any bytes, counted from 1, without its LF; line 0, and a line that no LF ends, are empty.
+#[must_use]
 pub fn line(text: &[u8], n: usize) -> &[u8] {
     let part = unsafe { sys::juwenfo_line(text.as_ptr(), text.len(), n) };
     &text[part.start..part.start + part.length]
@@ -51,6 +58,7 @@ pub fn check(text: &[u8], sets: &mut [i64], work: &mut [i64]) -> Result<usize, T
 }
 
 /// The ends of a register's set in the numbers that a passed check left. Panics on other numbers, or where `register` is past 15.
+#[must_use]
 pub fn ends(sets: &[i64], register: usize) -> &[i64] {
     let slot = &sets[SLOT * register..SLOT * (register + 1)];
     &slot[1..1 + 2 * slot[0] as usize]
@@ -64,6 +72,7 @@ pub fn run(text: &[u8], lent: &mut [i64]) -> Result<usize, Trouble> {
 
 /// The listing of any text at the front of `out`, as the program prints it: how many bytes it has. The rest of `out` is as lent. `None` if it is longer than
 /// `out`, and then all of `out` is as lent; [`LISTING`] bytes are always enough.
+#[must_use]
 pub fn listing(text: &[u8], out: &mut [u8]) -> Option<usize> {
     let l = unsafe { sys::juwenfo_listing(text.as_ptr(), text.len(), out.as_mut_ptr(), out.len()) };
     l.fits.then_some(l.count)

@@ -9,6 +9,7 @@ fn maybe(m: sys::Maybe) -> Option<i64> {
 macro_rules! one {
     ($(#[$doc:meta])* $name:ident, $call:ident) => {
         $(#[$doc])*
+        #[must_use]
         pub fn $name(x: i64) -> i64 {
             unsafe { sys::$call(x) }
         }
@@ -18,6 +19,7 @@ macro_rules! one {
 macro_rules! two {
     ($(#[$doc:meta])* $name:ident, $call:ident) => {
         $(#[$doc])*
+        #[must_use]
         pub fn $name(x: i64, y: i64) -> i64 {
             unsafe { sys::$call(x, y) }
         }
@@ -70,26 +72,31 @@ two!(
 );
 
 /// The quotient as thousandths: 1000 times `x`, wrapped, divided by `y` toward 0; a divisor 0 has none.
+#[must_use]
 pub fn div(x: i64, y: i64) -> Option<i64> {
     maybe(unsafe { sys::juwenfo_number_div(x, y) })
 }
 
 /// The remainder, with the sign of `x`; a divisor 0 has none.
+#[must_use]
 pub fn rem(x: i64, y: i64) -> Option<i64> {
     maybe(unsafe { sys::juwenfo_number_rem(x, y) })
 }
 
 /// The number after `x`; there is none after `i64::MAX`.
+#[must_use]
 pub fn next(x: i64) -> Option<i64> {
     maybe(unsafe { sys::juwenfo_number_next(x) })
 }
 
 /// The number before `x`; there is none before `i64::MIN`.
+#[must_use]
 pub fn prev(x: i64) -> Option<i64> {
     maybe(unsafe { sys::juwenfo_number_prev(x) })
 }
 
 /// Nonzero is true.
+#[must_use]
 pub fn as_bool(x: i64) -> bool {
     unsafe { sys::juwenfo_number_as_bool(x) }
 }

@@ -3,6 +3,9 @@
 //!
 //! Refusals, in this order: 2 and 1 of the left set, 2 and 1 of the right set, 3 (`work` is shorter than [`need`]), 4 (`out` is shorter than the answer).
 //! After 1, 2 and 3 every slice is as lent; after 4 `out` is; what stands behind the answer, or behind the need, is never written.
+//!
+//! One flag does not speak for the calls before it: no call asks for the right set's, and `not`, `and`, `or`, `le`, `lt`, `ne`, `union` and `intersect`
+//! answer false. So who chains calls keeps the OR of the flags of all answers on the way.
 use crate::sys;
 
 /// How many numbers were written to `out`, and the flag of the answer.
@@ -10,7 +13,7 @@ use crate::sys;
 pub struct Written {
     /// Numbers, two for each interval.
     pub count: usize,
-    /// The left set's flag, or a divisor's set held 0 and the left set has a member.
+    /// The flag lent with the left set, or this call is a `div` or `rem` whose left set has a member and whose right set holds 0; false where no flag is lent.
     pub flag: bool,
 }
 
@@ -36,6 +39,7 @@ pub const DIV: usize = 12;
 pub const REM: usize = 16;
 
 /// The numbers of work that a call needs: 2·k for each pair of intervals. `right` is a set of one interval for `neg` and `abs`.
+#[must_use]
 pub const fn need(k: usize, left: &[i64], right: &[i64]) -> usize {
     2 * k * (left.len() / 2) * (right.len() / 2)
 }

@@ -2,6 +2,7 @@
 #![allow(missing_docs)]
 
 #[repr(C)]
+#[must_use]
 #[derive(Clone, Copy)]
 pub struct Maybe {
     pub number: i64,
@@ -9,6 +10,7 @@ pub struct Maybe {
 }
 
 #[repr(C)]
+#[must_use]
 #[derive(Clone, Copy)]
 pub struct Answer {
     pub count: usize,
@@ -17,6 +19,7 @@ pub struct Answer {
 }
 
 #[repr(C)]
+#[must_use]
 #[derive(Clone, Copy)]
 pub struct Part {
     pub start: usize,
@@ -24,6 +27,7 @@ pub struct Part {
 }
 
 #[repr(C)]
+#[must_use]
 #[derive(Clone, Copy)]
 pub struct Verdict {
     pub line: usize,
@@ -32,6 +36,7 @@ pub struct Verdict {
 }
 
 #[repr(C)]
+#[must_use]
 #[derive(Clone, Copy)]
 pub struct Listed {
     pub count: usize,

@@ -1,6 +1,6 @@
 //! Every call once with an answer that document 01 marks or that is plain to see, and every refusal.
 use juwenfo::set::{self, Refused, Written};
-use juwenfo::{check, ends, judge, line, listing, number, run, Trouble, LISTING, SETS, WORK};
+use juwenfo::{check, ends, judge, line, listing, number, run, Trouble, LISTING, SETS, VERSION, WORDS, WORK};
 
 const MIN: i64 = i64::MIN;
 const MAX: i64 = i64::MAX;
@@ -126,4 +126,18 @@ fn listings() {
     assert_eq!((listing(b"(hold 0 1 2)\n", &mut out), &out[..10]), (Some(10), &b"stop 21 1\n"[..]));
     assert_eq!((listing(b"", &mut out), &out[..7]), (Some(7), &b"pass 0\n"[..]));
     assert_eq!(listing(b"", &mut []), None);
+}
+
+#[test]
+fn words_and_version() {
+    let numbers: Vec<u8> = (1..=9).chain(20..=22).collect();
+    assert_eq!(WORDS.map(|w| w.0), numbers[..]);
+    for (number, words) in WORDS {
+        assert_eq!(Trouble { number, line: 3 }.to_string(), format!("number {number} at line 3: {words}"));
+        assert_eq!(Refused(number).to_string(), format!("refused with {number}: {words}"));
+        assert!(include_str!("../../python/juwenfo.py").contains(&format!("    {number}: \"{words}\",\n")), "the words of {number} in Python");
+    }
+    let errors: [Box<dyn std::error::Error>; 2] = [Box::new(Trouble { number: 5, line: 0 }), Box::new(Refused(1))];
+    assert!(errors.iter().all(|e| e.source().is_none()));
+    assert!(include_str!("../../../include/juwenfo.h").contains(&format!("#define JUWENFO_VERSION \"{VERSION}\"")));
 }

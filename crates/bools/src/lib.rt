@@ -1,4 +1,5 @@
 // BoolInterval: may be false, may be true. From a set: false if 0 is in it, true if it is neither empty nor exactly {0}; back: 0 and 1000.
+use words::ONE;
 ghost use mathlib.Core.Path.{_≡_};
 ghost use mathlib.Core.Bool.{_&&_, _||_};
 ghost use Prim.Native.Nat.{_<_, _≤_};
@@ -121,12 +122,12 @@ pub fn put(out: &mut [i64], b: BoolInterval) -> usize
     let yes = b.btrue;
     if no {
         if yes {
-            return slices::put_two(out, 0, 0, 1000, 1000);
+            return slices::put_two(out, 0, 0, ONE, ONE);
         }
         return slices::put_one(out, 0, 0);
     }
     if yes {
-        return slices::put_one(out, 1000, 1000);
+        return slices::put_one(out, ONE, ONE);
     }
     0
 }

@@ -102,7 +102,7 @@ pub extern "C" fn juwenfo_set_rem(
     for_reply(number_intervals::rem(left, flag, right, work, out))
 }
 
-// A set that holds what `not` gives of a member: none, 0, 1000 or both.
+// The set of what `not` gives of all members: none, 0, 1000 or both.
 #[no_mangle]
 pub extern "C" fn juwenfo_set_not(left: &[i64], out: &mut [i64]) -> Answer
     ensures { λ r. ⌜ Gives1 point.not′ (now (left .entry)) (now (out .entry)) (answerOf r) (now (out .exit)) ⌝ }
@@ -110,7 +110,7 @@ pub extern "C" fn juwenfo_set_not(left: &[i64], out: &mut [i64]) -> Answer
     for_reply(number_intervals::not(left, out))
 }
 
-// A set that holds what `and` gives of two members: none, 0, 1000 or both.
+// A set that holds what `and` gives of all members: none, 0, 1000 or both; it may hold more where a set is empty.
 #[no_mangle]
 pub extern "C" fn juwenfo_set_and(left: &[i64], right: &[i64], out: &mut [i64]) -> Answer
     ensures { λ r. ⌜ Gives2 point.and (now (left .entry)) (now (right .entry)) (now (out .entry)) (answerOf r) (now (out .exit)) ⌝ }
@@ -118,7 +118,7 @@ pub extern "C" fn juwenfo_set_and(left: &[i64], right: &[i64], out: &mut [i64]) 
     for_reply(number_intervals::and(left, right, out))
 }
 
-// A set that holds what `or` gives of two members: none, 0, 1000 or both.
+// A set that holds what `or` gives of all members: none, 0, 1000 or both; it may hold more where a set is empty.
 #[no_mangle]
 pub extern "C" fn juwenfo_set_or(left: &[i64], right: &[i64], out: &mut [i64]) -> Answer
     ensures { λ r. ⌜ Gives2 point.or (now (left .entry)) (now (right .entry)) (now (out .entry)) (answerOf r) (now (out .exit)) ⌝ }
@@ -126,7 +126,7 @@ pub extern "C" fn juwenfo_set_or(left: &[i64], right: &[i64], out: &mut [i64]) -
     for_reply(number_intervals::or(left, right, out))
 }
 
-// A set that holds what `<=` gives of two members: none, 0, 1000 or both.
+// The set of what `<=` gives of all members: none, 0, 1000 or both.
 #[no_mangle]
 pub extern "C" fn juwenfo_set_le(left: &[i64], right: &[i64], out: &mut [i64]) -> Answer
     ensures { λ r. ⌜ Gives2 point.le (now (left .entry)) (now (right .entry)) (now (out .entry)) (answerOf r) (now (out .exit)) ⌝ }
@@ -134,7 +134,7 @@ pub extern "C" fn juwenfo_set_le(left: &[i64], right: &[i64], out: &mut [i64]) -
     for_reply(number_intervals::int_le(left, right, out))
 }
 
-// A set that holds what `<` gives of two members: none, 0, 1000 or both.
+// The set of what `<` gives of all members: none, 0, 1000 or both.
 #[no_mangle]
 pub extern "C" fn juwenfo_set_lt(left: &[i64], right: &[i64], out: &mut [i64]) -> Answer
     ensures { λ r. ⌜ Gives2 point.lt (now (left .entry)) (now (right .entry)) (now (out .entry)) (answerOf r) (now (out .exit)) ⌝ }
@@ -142,7 +142,7 @@ pub extern "C" fn juwenfo_set_lt(left: &[i64], right: &[i64], out: &mut [i64]) -
     for_reply(number_intervals::int_lt(left, right, out))
 }
 
-// A set that holds what `!=` gives of two members: 0, 1000 or both; 1000 where a set is empty.
+// A set that holds what `!=` gives of all members: 0, 1000 or both; 1000 where a set is empty.
 #[no_mangle]
 pub extern "C" fn juwenfo_set_ne(left: &[i64], right: &[i64], out: &mut [i64]) -> Answer
     ensures { λ r. ⌜ Gives2 point.ne (now (left .entry)) (now (right .entry)) (now (out .entry)) (answerOf r) (now (out .exit)) ⌝ }

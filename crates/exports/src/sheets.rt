@@ -12,7 +12,7 @@ ghost use Rattle.meaning.specs.Listing.{listing};
 ghost use Rattle.listing.specs.Handed.{handed, handedOver};
 ghost use Rattle.answers.specs.Answers.{verdictOf, listedFor};
 
-// 3 where fewer than 16 numbers are lent, then the refusals of the text, then the lines in order: 20, 21, 22.
+// 3 where fewer numbers are lent than there are registers, then the refusals of the text, then the lines in order: 20, 21, 22.
 #[no_mangle]
 pub extern "C" fn juwenfo_run(text: &[u8], lent: &mut [i64]) -> Verdict
     ensures { λ r. ⌜ verdictOf r ≡ verdict (runCall (now (text .entry)) (now (lent .entry))) ⌝ }
@@ -21,7 +21,7 @@ pub extern "C" fn juwenfo_run(text: &[u8], lent: &mut [i64]) -> Verdict
     for_run(run::run(text, lent))
 }
 
-// 3 where fewer than 528 numbers of sets or 8192 of work are lent, then the refusals of the text, then the lines in order: 9, 20, 21.
+// 3 where sets or work is shorter than the check needs, then the refusals of the text, then the lines in order: 9, 20, 21.
 #[no_mangle]
 pub extern "C" fn juwenfo_check(text: &[u8], sets: &mut [i64], work: &mut [i64]) -> Verdict
     ensures { λ r. ⌜ verdictOf r ≡ verdict (checkCall (now (text .entry)) (now (sets .entry)) (now (work .entry))) ⌝ }

@@ -5,6 +5,7 @@ use number::neg;
 use slices::greater;
 use slices::put_one;
 use slices::put_two;
+use words::MINUS_MAX;
 ghost use mathlib.Core.Path.{_≡_};
 ghost use Prim.Native.Nat.{_≤_};
 ghost use lib.ListN.{length};
@@ -63,7 +64,7 @@ pub fn abs_pair(out: &mut [i64], s: i64, e: i64) -> usize
         if e == MIN {
             put_one(out, MIN, MIN)
         } else {
-            let m = magnitudes(-9223372036854775807, e);
+            let m = magnitudes(MINUS_MAX, e);
             put_two(out, MIN, MIN, m.lo, m.hi)
         }
     } else {

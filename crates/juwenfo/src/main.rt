@@ -1,6 +1,9 @@
-// Reads a sheet from standard input and writes its listing to standard output.
+// Reads a sheet from standard input and writes its listing to standard output. What goes wrong is said on standard error.
 ghost use lib.ListN.{length};
 ghost use Rattle.juwenfo.specs.Filled.{Filled};
+use libc::STDERR_FILENO;
+use libc::STDIN_FILENO;
+use libc::STDOUT_FILENO;
 use limits::LINE;
 use limits::LINES;
 use listing::LONGEST;
@@ -22,7 +25,7 @@ fn read_text(buffer: &mut [u8]) -> Fill
 {
     let mut at = 0;
     while at < buffer.len() {
-        let got = libc::read(0, &mut buffer[at..]);
+        let got = libc::read(STDIN_FILENO, &mut buffer[at..]);
         if got < 0 {
             return Fill::Failed;
         }
@@ -35,24 +38,38 @@ fn read_text(buffer: &mut [u8]) -> Fill
     Fill::Bytes(at)
 }
 
+// All of a listing, or a complaint.
+fn print(bytes: &[u8]) {
+    if !io::write_all(STDOUT_FILENO, bytes) {
+        io::write_all(STDERR_FILENO, b"the listing cannot be written\n");
+    }
+}
+
 // The listing of a text: `out` has room for any.
 fn write_listing(text: &[u8]) {
     let mut out = [0u8; LONGEST];
     match listing(text, &mut out) {
-        Listed::Written(n) => {
-            io::write_all(1, &out[..n]);
-        }
+        Listed::Written(n) => print(&out[..n]),
         Listed::Short => {}
     }
 }
 
-// A sheet that cannot be read has no listing.
-fn main() {
+// The sheet on standard input; one that cannot be read has no listing.
+fn list_input() {
     let mut text = [0u8; ENOUGH];
     match read_text(&mut text) {
         Fill::Bytes(n) => write_listing(&text[..n]),
         Fill::Failed => {
-            io::write_all(2, b"the sheet cannot be read\n");
+            io::write_all(STDERR_FILENO, b"the sheet cannot be read\n");
         }
+    }
+}
+
+// Arguments are refused: who names a file would else be given the listing of another text.
+fn main() {
+    if os::arg_count() > 1 {
+        io::write_all(STDERR_FILENO, b"usage: juwenfo < SHEET\n");
+    } else {
+        list_input();
     }
 }

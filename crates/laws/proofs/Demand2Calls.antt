@@ -65,6 +65,9 @@ module _ (k need : ℕ) (answer : Set) (flag : Bool) (out work : List ℤ) where
       go true false false p q r e = record { unrefused-args = eqb-true k 0 p; room = ltb-false (length out) n r; returned = rw (p, q, r) refl; left = rw (p, q, r) refl }
       go false b c p q r e = clash (eq-eqb k 0 e) p
 
+  pub unrefused-call : callReturns k need answer flag out work .number ≡ 0 → k ≡ 0
+  unrefused-call e = call-wrote e .unrefused-args
+
   -- so its numbers are the answer's ends, and show it
   front : Wrote → take (callReturns k need answer flag out work .count) (callOut k need answer flag out work) ≡ flat answer
   front w = (λ i. take (w .returned i .count) (w .left i)) ∙ take-over (flat answer) out

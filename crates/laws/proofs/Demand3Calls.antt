@@ -1,5 +1,5 @@
--- Demand 3 for the calls (meaning/specs/Demand3Calls.antt): with slices that are long enough the calls are the check and the run of the text, a trouble is never on line 0, the 528 numbers show the sets,
--- and the run's state fills the first 16 numbers. Assumes nothing.
+-- Demand 3 for the calls (meaning/specs/Demand3Calls.antt): with slices that are long enough the calls are the check and the run of the text, a trouble is never on line 0, the slots show the sets,
+-- and the run's state fills the numbers of the registers. Assumes nothing.
 use lib.IntN.{ℤ, pos}
 use lib.ListN.{getD, set, length, take, length-set, length-replicate}
 use mathlib.Core.Path.{_≡_, refl, sym, ap, _∙_, subst}
@@ -88,7 +88,7 @@ module _ (t : List ℕ) (sets work : List ℤ) (h : Enough sets work) where
   check-left e = ap (setsLeftBy sets) (check-call ∙ e)
 
 module _ (t : List ℕ) (lent : List ℤ) (h : registers ≤ length lent) where
-  run-call : runCall t lent ≡ runText lent t
+  pub run-call : runCall t lent ≡ runText lent t
   unfolding runCall
   run-call = rw (le-ltb (length lent) registers h)
 

@@ -17,7 +17,7 @@ use Rattle.meaning.specs.Bools.{BoolInterval}
 use Rattle.meaning.specs.Interval.{Interval, only, Proper, each, PairOp, negPair, absPair, addPair, subPair, mulPair, divPair, remPair}
 use Rattle.meaning.specs.NumberIntervals.{Set, Normal, normal, flat, intervals, insert, rebuild, eachPair, ofBools, union, set1, set2}
 use Rattle.meaning.specs.SetCalls.{factor1, factor2, need2, refusal, refusal2, refused, written, callReturns, returns1, returns2, returnsUnion}
-use Rattle.meaning.specs.Rooms.{most1, most2}
+use Rattle.meaning.specs.Rooms.{most1, most2, mostBoth, NeverShort}
 use Rattle.meaning.specs.Demand2.{Few1, Few2}
 use Rattle.laws.proofs.Members.{normal-proper, length-each}
 use Rattle.laws.proofs.Join.{insert-case}
@@ -130,20 +130,20 @@ never-short k need answer flag out work h g = go (eqb k 0) refl (ltb (length wor
     go true p false false q e = omega arith
     go false p b c q e = h e
 
-pub room1 : (o : Op1) (left : List ℤ) (flag : Bool) (out work : List ℤ) → All InRange left → most1 o left ≤ length out → returns1 o left flag out work .number ≡ noRoom → ⊥
+pub room1 : (o : Op1) (left : List ℤ) (flag : Bool) (out work : List ℤ) → (refusal left ≡ 0 → All InRange left) → NeverShort (most1 o left) out (returns1 o left flag out work)
 room1 o left flag out work r h =
-    never-short _ _ _ _ out work (refusal-known left) (λ e. omega (arith, h, set1-length o left (argument-ends left r e .normal)))
+    never-short _ _ _ _ out work (refusal-known left) (λ e. omega (arith, h, set1-length o left (argument-ends left (r e) e .normal)))
 
-module _ (left right : List ℤ) (r : All InRange left) (q : All InRange right) where
+module _ (left right : List ℤ) (r : refusal2 left right ≡ 0 → All InRange left × All InRange right) where
   -- arguments that are not refused are normal
   pub both-room : (need : ℕ) (answer : Set) (flag : Bool) (out work : List ℤ) → (normal left ≡ true → normal right ≡ true → Normal (intervals left) → Normal (intervals right) → length (flat answer) ≤ length out)
       → callReturns (refusal2 left right) need answer flag out work .number ≡ noRoom → ⊥
   both-room need answer flag out work h =
       never-short _ need answer flag out work (refusal2-known left right)
-      (λ e. let u = unrefused2 left right e in h (unrefused left (u .0)) (unrefused right (u .1)) (argument-ends left r (u .0) .normal) (argument-ends right q (u .1) .normal))
+      (λ e. let u = unrefused2 left right e in h (unrefused left (u .0)) (unrefused right (u .1)) (argument-ends left (r e .0) (u .0) .normal) (argument-ends right (r e .1) (u .1) .normal))
 
-  pub room2 : (o : Op2) (flag : Bool) (out work : List ℤ) → most2 o left right ≤ length out → returns2 o left flag right out work .number ≡ noRoom → ⊥
+  pub room2 : (o : Op2) (flag : Bool) (out work : List ℤ) → NeverShort (most2 o left right) out (returns2 o left flag right out work)
   room2 o flag out work h = both-room _ _ _ out work (λ _ _ n m. omega (arith, h, set2-length left right n m o))
 
-  pub union-room : (out : List ℤ) → length left + length right ≤ length out → returnsUnion left right out .number ≡ noRoom → ⊥
+  pub union-room : (out : List ℤ) → NeverShort (mostBoth left right) out (returnsUnion left right out)
   union-room out h = both-room 0 _ false out [] (λ _ _ n m. omega (arith, h, union-length left right))

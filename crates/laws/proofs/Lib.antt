@@ -15,10 +15,12 @@ pub mod Holds
 pub mod Integers
 pub mod Join
 pub mod Lengths
+pub mod Lists
 pub mod Machine
 pub mod Members
 pub mod Over
 pub mod Parts
+pub mod PlainRun
 pub mod Products
 pub mod Quotients
 pub mod RemainderCounts

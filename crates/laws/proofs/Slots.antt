@@ -69,7 +69,7 @@ layout-over S old r h k = layout-front S (drop (length (layout S)) old) r h k
 pub sound-short : {B : Bands} → SoundBands intervalLimit B → All Short (B .sets)
 sound-short {B} h = all-from Short (B .sets) (only (pos 0)) (λ r _. h .each r .few)
 
--- and so the 528 numbers
+-- and so those of all registers
 pub length-shown : {B : Bands} → SoundBands intervalLimit B → length (layout (B .sets)) ≡ setsNeed
 length-shown {B} h = length-layout (B .sets) (sound-short h) ∙ ap (λ (n : ℕ). n * slotSize) (h .size)
 

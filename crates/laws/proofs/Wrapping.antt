@@ -1,15 +1,15 @@
 -- Wrapping: a wrapped number is from MIN to MAX and differs from the exact one by a multiple of 2^64, and there is one such number only.
 -- `wrap-parts z` and `num (wrap-fits z)` are what `omega` needs of wrap z. Assumes nothing.
-use mathlib.Core.Path.{_≡_, sym, ap}
+use mathlib.Core.Path.{_≡_, refl, sym, ap, _∙_}
 use Prim.Native.Nat.{ℕ, suc, _+_, _-_, _*_, _/_, _%_, _^_, _<_}
 use native.Mathlib.Omega.{arith}
 use lib.IntN.{ℤ, pos, negsuc, _+ℤ_, _-ℤ_, _*ℤ_}
 use lib.Signed.{_≤ℤ_}
 use mir.Syntax.{w64}
 use mir.Val.{SFits, ofZ}
-use Rattle.meaning.specs.Number.{InRange, window, wrap}
+use Rattle.meaning.specs.Number.{InRange, window, wrap, InWindow, Windows}
 use Rattle.laws.proofs.Integers.{up, down, zarith, add-parts, sub-parts, up-neg, down-neg, up-scale, down-scale}
-use Rattle.laws.proofs.Machine.{num, fits-out, bits, sg, fits-range}
+use Rattle.laws.proofs.Machine.{num, fits-out, bits, sg, fits-range, range-fits}
 
 pub wrap-parts : (z : ℤ) → up (wrap z) + down z + 2 ^ 64 * up (window z) ≡ down (wrap z) + up z + 2 ^ 64 * down (window z)
 unfolding wrap
@@ -85,3 +85,35 @@ dist-is {s} {e} f g h r l k =
 
 pub wrap-range : (z : ℤ) → InRange (wrap z)
 wrap-range z = fits-range (wrap-fits z)
+
+-- ---- what 01 says of windows and wrapped values
+
+-- the ends of window k, for the list of `omega`
+low-end : (k : ℤ) → up ((pos (2 ^ 64) *ℤ k) -ℤ pos (2 ^ 63)) + 2 ^ 64 * down k + 2 ^ 63 ≡ down ((pos (2 ^ 64) *ℤ k) -ℤ pos (2 ^ 63)) + 2 ^ 64 * up k
+low-end k = omega (arith, sub-parts (pos (2 ^ 64) *ℤ k) (pos (2 ^ 63)), up-scale (2 ^ 64) k, down-scale (2 ^ 64) k)
+
+high-end : (k : ℤ) → up ((pos (2 ^ 64) *ℤ k) +ℤ pos (2 ^ 63 - 1)) + 2 ^ 64 * down k ≡ down ((pos (2 ^ 64) *ℤ k) +ℤ pos (2 ^ 63 - 1)) + 2 ^ 64 * up k + (2 ^ 63 - 1)
+high-end k = omega (arith, add-parts (pos (2 ^ 64) *ℤ k) (pos (2 ^ 63 - 1)), up-scale (2 ^ 64) k, down-scale (2 ^ 64) k)
+
+in-window : (z : ℤ) → InWindow (window z) z
+in-window z =
+    let f = num (wrap-fits z) in
+    record { above = omega (zarith, wrap-parts z, low-end (window z)); below = omega (zarith, wrap-parts z, high-end (window z)) }
+
+one-window : (k z : ℤ) → InWindow k z → k ≡ window z
+one-window k z h =
+    let w = in-window z in
+    omega (zarith, h .above, h .below, w .above, w .below, low-end k, high-end k, low-end (window z), high-end (window z))
+
+less : (z : ℤ) → z -ℤ (pos (2 ^ 64) *ℤ window z) ≡ wrap z
+unfolding wrap
+less z = refl
+
+pub windows : Windows
+windows = record {
+  in-window = in-window;
+  one-window = one-window;
+  wrap-range = wrap-range;
+  wrap-less = λ k z h. sym (less z) ∙ ap (λ (j : ℤ). z -ℤ (pos (2 ^ 64) *ℤ j)) (sym (one-window k z h));
+  wrap-only = λ k z w r e. wrap-is w z (up k) (down k) (range-fits r) (omega (zarith, e, sub-parts z (pos (2 ^ 64) *ℤ k), up-scale (2 ^ 64) k, down-scale (2 ^ 64) k));
+}

@@ -1,4 +1,4 @@
--- What the check's contract tells the listing: slices of 528 and 8192 numbers are long enough, so the answer is that of the text. Assumes nothing.
+-- What the check's contract tells the listing: slices as long as the check needs are long enough, so the answer is that of the text. Assumes nothing.
 use lib.IntN.{ℤ}
 use lib.ListN.{length}
 use mathlib.Core.Path.{_≡_, ap, _∙_}

@@ -1,4 +1,4 @@
--- The listing of a text by the check's verdict: number 0 is a pass, and its lines come from the marks and the 528 numbers; any other number is one line. Assumes nothing.
+-- The listing of a text by the check's verdict: number 0 is a pass, and its lines come from the marks and the registers' slots; any other number is one line. Assumes nothing.
 use lib.IntN.{ℤ, pos}
 use lib.ListN.{length, getD}
 use mathlib.Core.Path.{_≡_, refl, sym, ap, _∙_, subst}
@@ -32,6 +32,7 @@ use Prim.Native.Nat.{_*_}
 use Rattle.listing.specs.Told.{Told}
 use Rattle.listing.specs.Texts.{markedLine, markedLines, Counted}
 use Rattle.sheet.specs.Judging.{IsSheet}
+use Rattle.laws.proofs.Lists.{getD-there}
 use Rattle.sheet_check.specs.Answer.{verdictOf, answerFor}
 use Rattle.sheet_check.specs.Working.{isPass}
 use Rattle.sheet_check.specs.declared.Answer.{Answer}
@@ -39,12 +40,6 @@ use Rattle.sheet_check.specs.declared.Answer.the-variants as answer
 use Rattle.sheet_check.proofs.Walking.{answer-verdict, pass-done}
 use Rattle.listing.specs.Marks.{marksAfter}
 use Rattle.listing.proofs.Marks.{marks-listed}
-
--- an element that is there, whatever stands for those that are not
-getD-there : {A : Type 0} (l : List A) (i : ℕ) (a b : A) → i < length l → getD l i a ≡ getD l i b
-getD-there [] i a b h = absurd (let x : ⊥ = omega arith in x)
-getD-there (x ∷ l) zero a b h = refl
-getD-there (x ∷ l) (suc i) a b h = getD-there l i a b (le-of-suc-le-suc h)
 
 module _ (ls : List Line) (S : List Set) (m : List Bool) (l : List ℤ)
     (marks : (r : ℕ) → r < registers → getD m r false ≡ listed ls r) (sets : (r : ℕ) → r < registers → setIn l r ≡ at S r) where

@@ -15,7 +15,7 @@ use mir.Val.{SFits, toZ}
 use mir.Facts.{toZ-pos, toZ-ofZ}
 use borrow.Author.Tests.{eq-eqb, ne-eqb, le-leb, lt-leb, le-ltb, lt-ltb, leb-true, leb-false}
 use Rattle.meaning.specs.Number.{MIN, MAX, within}
-use Rattle.meaning.specs.Sheet.{beyond}
+use Rattle.meaning.specs.Sheet.{registers, beyond}
 use Rattle.meaning.specs.Reading.{Got, got, bad, digits, number, needless, scale, signed, decimals, unsigned, literal, registerWith, register}
 use Rattle.laws.proofs.Integers.{by-test, le-out, lt-out, up-neg, down-neg, is-within, above-out, below-out, from-within}
 use Rattle.laws.proofs.Machine.{rd, range-fits}
@@ -259,16 +259,16 @@ module _ (s : List ℕ) {i : ℕ} (ei : i ≡ digits s) where
       value-is : v ≡ min cap (number 0 (take i s))
       value-is = ev ∙ ap (capped 0) ea ∙ capped-is (take i s) 0
 
-      pub register-there : v < 16 → got v i ≡ register s
+      pub register-there : v < registers → got v i ≡ register s
       unfolding registerWith
       register-there h =
           let w = value-is in
           let n : number 0 (take i s) ≡ v = omega arith in
-          rw (← ei, ne-eqb _ _ nz, sym eb ∙ e, n, lt-ltb v 16 h)
+          rw (← ei, ne-eqb _ _ nz, sym eb ∙ e, n, lt-ltb v registers h)
 
-      pub register-past : 16 ≤ v → bad ≡ register s
+      pub register-past : registers ≤ v → bad ≡ register s
       unfolding registerWith
       register-past h =
           let w = value-is in
-          let n : 16 ≤ number 0 (take i s) = omega arith in
-          rw (← ei, ne-eqb _ _ nz, sym eb ∙ e, le-ltb (number 0 (take i s)) 16 n)
+          let n : registers ≤ number 0 (take i s) = omega arith in
+          rw (← ei, ne-eqb _ _ nz, sym eb ∙ e, le-ltb (number 0 (take i s)) registers n)

@@ -7,6 +7,8 @@ ghost use Rattle.meaning.specs.Reading.{got, digits as digitsOf, needless as ne
 ghost use Rattle.literals.specs.Capped.{cap, capped};
 ghost use Rattle.literals.specs.Answer.{registerOf, literalOf};
 use limits::REGISTERS;
+use words::MIN;
+use words::SIGN;
 
 // A register's number and how many bytes it takes.
 pub enum Register {
@@ -81,9 +83,6 @@ fn wide(b: u8) -> u64
     b as u64
 }
 
-// 2^63, the magnitude of MIN.
-const SIGN: u64 = 9223372036854775808;
-
 // Where a magnitude is held: greater ones are beyond MIN..MAX all the same.
 const CAP: u64 = SIGN + 1;
 
@@ -145,7 +144,7 @@ fn finish(negated: bool, m: u64, n: usize) -> Literal
         }
     } else if m == SIGN {
         if negated {
-            Literal::Is(-9223372036854775808, false, n)
+            Literal::Is(MIN, false, n)
         } else {
             Literal::Is(0, true, n)
         }
@@ -199,7 +198,7 @@ pub fn read_literal(text: &[u8]) -> Literal
     }
 }
 
-// A register's number: digits without a needless leading 0, below 16.
+// A register's number: digits without a needless leading 0, of a register that there is.
 pub fn read_register(text: &[u8]) -> Register
     ensures { λ r. ⌜ registerOf r ≡ register (now (text .entry)) ⌝ }
 {

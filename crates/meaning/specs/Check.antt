@@ -65,7 +65,7 @@ check limit ls = work (checkLine limit) 1 startSets ls
 unfoldable pub checkText : ℕ → List ℕ → Judged Bands
 checkText limit t = judge (check limit) (read t)
 
--- ---- the layout of the 528 numbers: per register how many intervals, then 32 for ends, unused ones 0
+-- ---- the layout of the lent sets: per register how many intervals, then 32 for ends, unused ones 0
 
 abbrev pub slotSize : ℕ
 slotSize = 33

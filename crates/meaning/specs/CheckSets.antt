@@ -1,5 +1,5 @@
 -- What holds of the check's sets after every line: from a limit of 1 on each register's set is normal, not empty, and of at most `limit` intervals (`check-sets` of laws/proofs/CheckSets.antt);
--- a hold is judged exactly (`hold-exact` of laws/proofs/Holds.antt); and the 528 numbers show the sets (`sets-shown` of laws/proofs/Slots.antt). Assumes nothing.
+-- a hold is judged exactly (`hold-exact` of laws/proofs/Holds.antt); and the layout shows the sets (`sets-shown` of laws/proofs/Slots.antt). Assumes nothing.
 use lib.IntN.{ℤ}
 use lib.ListN.{length, getD, take}
 use mathlib.Core.Path.{_≡_}

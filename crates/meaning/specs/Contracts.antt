@@ -1,4 +1,4 @@
--- What a set call promises: the number, count and flag that it returns, what it leaves in its slices, and demand 2. `r`, `out′` and `work′` are what the call returned and left. Assumes nothing.
+-- What a set call promises: the number, count and flag that it returns, what it leaves in its slices, demand 2, and with which length of `out` it does not return 4. `r`, `out′` and `work′` are what the call returned and left. Assumes nothing.
 use lib.IntN.{ℤ}
 use mathlib.Core.Path.{_≡_}
 use mathlib.Core.Bool.{Bool, false}
@@ -6,6 +6,7 @@ use mathlib.Core.List.{List, []}
 use Rattle.meaning.specs.Number.{Op1, Op2}
 use Rattle.meaning.specs.SetCalls.{Returned, returns1, out1, work1, returns2, out2, work2, returnsUnion, outUnion, returnsIntersect, outIntersect}
 use Rattle.meaning.specs.Demand2Calls.{Right1, Right2, RightUnion, RightIntersect}
+use Rattle.meaning.specs.Rooms.{most1, most2, mostBoth, NeverShort}
 
 -- neg, abs: one operand, with work
 pub record Works1 (o : Op1) (left : List ℤ) (flag : Bool) (out work : List ℤ) (r : Returned) (out′ work′ : List ℤ) : Type 0 where
@@ -13,6 +14,7 @@ pub record Works1 (o : Op1) (left : List ℤ) (flag : Bool) (out work : List ℤ
   pub writes : out′ ≡ out1 o left flag out work
   pub clears : work′ ≡ work1 o left flag out work
   pub demand2 : Right1 o left flag r out′
+  pub room : NeverShort (most1 o left) out r
 
 -- add, sub, mul, div, rem: two operands, with work
 pub record Works2 (o : Op2) (left : List ℤ) (flag : Bool) (right out work : List ℤ) (r : Returned) (out′ work′ : List ℤ) : Type 0 where
@@ -20,25 +22,30 @@ pub record Works2 (o : Op2) (left : List ℤ) (flag : Bool) (right out work : Li
   pub writes : out′ ≡ out2 o left flag right out work
   pub clears : work′ ≡ work2 o left flag right out work
   pub demand2 : Right2 o left flag right r out′
+  pub room : NeverShort (most2 o left right) out r
 
 -- not: one operand, without work
 pub record Gives1 (o : Op1) (left out : List ℤ) (r : Returned) (out′ : List ℤ) : Type 0 where
   pub returns : r ≡ returns1 o left false out []
   pub writes : out′ ≡ out1 o left false out []
   pub demand2 : Right1 o left false r out′
+  pub room : NeverShort (most1 o left) out r
 
 -- and, or, le, lt, ne: two operands, without work
 pub record Gives2 (o : Op2) (left right out : List ℤ) (r : Returned) (out′ : List ℤ) : Type 0 where
   pub returns : r ≡ returns2 o left false right out []
   pub writes : out′ ≡ out2 o left false right out []
   pub demand2 : Right2 o left false right r out′
+  pub room : NeverShort (most2 o left right) out r
 
 pub record Unites (left right out : List ℤ) (r : Returned) (out′ : List ℤ) : Type 0 where
   pub returns : r ≡ returnsUnion left right out
   pub writes : out′ ≡ outUnion left right out
   pub demand2 : RightUnion left right r out′
+  pub room : NeverShort (mostBoth left right) out r
 
 pub record Meets (left right out : List ℤ) (r : Returned) (out′ : List ℤ) : Type 0 where
   pub returns : r ≡ returnsIntersect left right out
   pub writes : out′ ≡ outIntersect left right out
   pub demand2 : RightIntersect left right r out′
+  pub room : NeverShort (mostBoth left right) out r

@@ -15,13 +15,14 @@ pub mod Check
 pub mod Listing
 pub mod Demand2
 pub mod Demand2Calls
+pub mod Rooms
 pub mod Contracts
 pub mod Demand3
 pub mod Demand3Calls
 pub mod ReadLaws
 pub mod CheckSets
 pub mod Verdicts
-pub mod Rooms
+pub mod PlainRun
 pub mod Marked
 pub mod Readings
 pub mod SheetReadings

@@ -2,6 +2,7 @@
 use lib.IntN.{ℤ, pos, negsuc, negℤ, natAbs, sucℤ, predℤ, _+ℤ_, _-ℤ_, _*ℤ_}
 use lib.Signed.{leZ, ltZ, quotZ, remZ, _≤ℤ_}
 use lib.Dec.{eqb}
+use mathlib.Core.Path.{_≡_}
 use mathlib.Core.Bool.{Bool, false, not, cond, _&&_, _||_}
 use mathlib.Core.Option.{Option, none, some}
 use Prim.Native.Nat.{ℕ, _+_, _-_, _/_, _^_}
@@ -54,6 +55,20 @@ window (negsuc n) = negℤ (pos ((n + 2 ^ 63) / 2 ^ 64))
 -- its wrapped value: itself less 2^64 times its window
 unfoldable pub wrap : ℤ → ℤ
 wrap z = z -ℤ (pos (2 ^ 64) *ℤ window z)
+
+-- z is between 2^64·k − 2^63 and 2^64·k + 2^63 − 1
+abbrev pub InWindow : ℤ → ℤ → Type 0
+InWindow k z = Between ((pos (2 ^ 64) *ℤ k) -ℤ pos (2 ^ 63)) z ((pos (2 ^ 64) *ℤ k) +ℤ pos (2 ^ 63 - 1))
+
+-- what 01 says of windows and wrapped values, of the two formulas. The theorem is `windows` of laws/proofs/Wrapping.antt
+pub record Windows : Type 0 where
+  -- a number is in its window and in no other
+  pub in-window : (z : ℤ) → InWindow (window z) z
+  pub one-window : (k z : ℤ) → InWindow k z → k ≡ window z
+  -- its wrapped value is from MIN to MAX and is itself less 2^64·k; and a number from MIN to MAX that differs from it by some 2^64·k is its wrapped value
+  pub wrap-range : (z : ℤ) → InRange (wrap z)
+  pub wrap-less : (k z : ℤ) → InWindow k z → wrap z ≡ z -ℤ (pos (2 ^ 64) *ℤ k)
+  pub wrap-only : (k z w : ℤ) → InRange w → w ≡ z -ℤ (pos (2 ^ 64) *ℤ k) → w ≡ wrap z
 
 -- divided by 1000, toward 0
 abbrev pub thousandth : ℤ → ℤ

@@ -69,7 +69,7 @@ verdict (refused k l) = record { number = k; line = l; count = 0 }
 verdict (worked n (done a)) = record { number = 0; line = 0; count = n }
 verdict (worked n (stopped k l a)) = record { number = k; line = l; count = 0 }
 
--- 3 where fewer than 16 numbers are lent, before all else
+-- 3 where fewer numbers are lent than there are registers, before all else
 unfoldable pub runCall : List ℕ → List ℤ → Judged (List ℤ)
 runCall t lent = cond (ltb (length lent) registers) (refused tooShort 0) (runText lent t)
 

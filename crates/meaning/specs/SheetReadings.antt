@@ -5,7 +5,7 @@ use lib.ListN.{take, drop, replicate}
 use mathlib.Core.Path.{_≡_}
 use mathlib.Core.Bool.{true, false}
 use mathlib.Core.List.{List, [], _∷_, _++_}
-use Prim.Native.Nat.{ℕ, zero, suc, _*_}
+use Prim.Native.Nat.{ℕ, zero, suc, _+_, _-_, _*_}
 use Prim.Native.Char.{code}
 use Rattle.meaning.specs.Bytes.{bytes, LF}
 use Rattle.meaning.specs.Outcome.{ok, stop, done, stopped}
@@ -13,7 +13,7 @@ use Rattle.meaning.specs.Number.{minus, MIN, MAX, neg, abs, not′, add,
 use Rattle.meaning.specs.Interval.{span, only}
 use Rattle.meaning.specs.NumberIntervals.{intervals}
 use Rattle.meaning.specs.SetCalls.{refusal, refusal2, factor1, factor2, need1, need2, written, refused as notWritten, returns1, out1, work1, returnsUnion, returnsIntersect}
-use Rattle.meaning.specs.Sheet.{lit, reg, form1, form2, put, hold, act}
+use Rattle.meaning.specs.Sheet.{registers, lit, reg, form1, form2, put, hold, act}
 use Rattle.meaning.specs.Text.{sheet, noSheet, read, lineAt, cut}
 use Rattle.meaning.specs.Run.{refused, worked, runText, verdict, runCall, leftBy, runLent}
 use Rattle.meaning.specs.Check.{startSets, settle, intervalLimit, checkText, checkCall, slot, layout, setsLeftBy, workLeftBy}
@@ -128,11 +128,11 @@ pub record SheetReadings : Type 0 where
   -- a cut keeps its LFs
   pub cut-one : cut (bytes "a\nb\n") 1 ≡ bytes "a\n"
   -- 22 on line 2: register 0 has its lent number, register 1 still 0
-  pub run-stops : runText (pos 5000 ∷ pos 9000 ∷ []) (bytes "(in 0 0 9)\n(in 1 0 1)\n") ≡ worked 2 (stopped 22 2 (pos 5000 ∷ replicate 15 (pos 0)))
-  -- what a stop leaves: the state before the line, and numbers past the first 16 as lent
-  pub run-left : runLent (bytes "(in 0 0 9)\n(in 1 0 1)\n") (replicate 17 (pos 5000)) ≡ pos 5000 ∷ (replicate 15 (pos 0) ++ pos 5000 ∷ [])
+  pub run-stops : runText (pos 5000 ∷ pos 9000 ∷ []) (bytes "(in 0 0 9)\n(in 1 0 1)\n") ≡ worked 2 (stopped 22 2 (pos 5000 ∷ replicate (registers - 1) (pos 0)))
+  -- what a stop leaves: the state before the line, and numbers past those of the registers as lent
+  pub run-left : runLent (bytes "(in 0 0 9)\n(in 1 0 1)\n") (replicate (registers + 1) (pos 5000)) ≡ pos 5000 ∷ (replicate (registers - 1) (pos 0) ++ pos 5000 ∷ [])
   -- 21 in a run
-  pub run-hold : runText [] (bytes "(hold 3 1 2)\n") ≡ worked 1 (stopped 21 1 (replicate 16 (pos 0)))
+  pub run-hold : runText [] (bytes "(hold 3 1 2)\n") ≡ worked 1 (stopped 21 1 (replicate registers (pos 0)))
   -- 16 lent numbers are enough, and an empty sheet leaves zeros
   pub run-empty : runLent [] (replicate 16 (pos 7)) ≡ replicate 16 (pos 0)
   pub run-fifteen : verdict (runCall [] (replicate 15 (pos 7))) ≡ record { number = 3; line = 0; count = 0 }
@@ -142,12 +142,12 @@ pub record SheetReadings : Type 0 where
   pub run-short : verdict (runCall (bytes "x") []) ≡ record { number = 3; line = 0; count = 0 }
   pub check-short : verdict (checkCall (bytes "x") [] []) ≡ record { number = 3; line = 0; count = 0 }
   -- both arguments are always worked
-  pub no-short-cut : runText [] (bytes "(put 0 (and 0 (div 1 0)))\n") ≡ worked 1 (stopped 20 1 (replicate 16 (pos 0)))
+  pub no-short-cut : runText [] (bytes "(put 0 (and 0 (div 1 0)))\n") ≡ worked 1 (stopped 20 1 (replicate registers (pos 0)))
   pub check-zero : checkText 16 (bytes "(put 0 (and 0 (div 1 0)))\n") ≡ worked 1 (stopped 20 1 startSets)
   -- the start is {0}
   pub check-hold : checkText 16 (bytes "(hold 3 0 0)\n(hold 3 1 2)\n") ≡ worked 2 (stopped 21 2 startSets)
   -- put's E reads the state before the line
-  pub put-old-state : runText [] (bytes "(put 0 1)\n(put 0 (add (reg 0) 1))\n") ≡ worked 2 (done (pos 2000 ∷ replicate 15 (pos 0)))
+  pub put-old-state : runText [] (bytes "(put 0 1)\n(put 0 (add (reg 0) 1))\n") ≡ worked 2 (done (pos 2000 ∷ replicate (registers - 1) (pos 0)))
   -- an untouched register holds {0}
   pub untouched-slot : slot (only (pos 0)) ≡ pos 1 ∷ replicate 32 (pos 0)
   -- register by register: the count, then 32 for ends

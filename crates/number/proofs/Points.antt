@@ -2,12 +2,12 @@
 use mathlib.Core.Path.{_≡_, refl, sym, ap, _∙_}
 use lib.IntN.{ℤ, pos, negsuc, negℤ, sucℤ, predℤ, _+ℤ_, _-ℤ_, _*ℤ_}
 use Prim.Native.Nat.{_^_, _<_}
-use lib.Signed.{_≤ℤ_, _<ℤ_, mag, quotZ, remZ}
+use lib.Signed.{_≤ℤ_, _<ℤ_, mag, remZ}
 use mir.Syntax.{w64}
 use mir.Val.{SFits}
 use mir.Facts.{toZ-ofZ}
 use Rattle.meaning.specs.Number.{MIN, wrap, negative, absolute, sum, difference}
-use Rattle.laws.proofs.Integers.{zarith, up-neg, down-neg, add-parts, sub-parts, suc-parts, pred-parts, up-quot-neg, down-quot-neg, up-rem, down-rem}
+use Rattle.laws.proofs.Integers.{zarith, up-neg, down-neg, add-parts, sub-parts, suc-parts, pred-parts, up-rem, down-rem}
 use Rattle.laws.proofs.Machine.{rd, num, ok, fits-out}
 use Rattle.laws.proofs.Wrapping.{wrap-id}
 
@@ -22,13 +22,6 @@ abs-pos {x = pos n} f h = sym (wrap-id (pos n) f)
 abs-pos {x = negsuc n} f h = omega zarith
 
 -- by −1
-pub quot-minus : (x : ℤ) {y : ℤ} → y ≡ negsuc 0 → negative x ≡ wrap (quotZ x y)
-unfolding negative
-quot-minus x {y} e = ap wrap (at x ∙ ap (quotZ x) (sym e))
-  where
-    at : (x : ℤ) → negℤ x ≡ quotZ x (negsuc 0)
-    at x = omega (zarith, up-neg x, down-neg x, up-quot-neg x 0, down-quot-neg x 0)
-
 pub rem-minus : (x : ℤ) {y : ℤ} → y ≡ negsuc 0 → pos 0 ≡ remZ x y
 rem-minus x {y} e = at x ∙ ap (remZ x) (sym e)
   where

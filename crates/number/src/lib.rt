@@ -11,12 +11,12 @@ pub use words::MAX;
 pub use words::MIN;
 pub use words::ONE;
 use words::bits;
+use words::milli;
+pub use words::neg;
 use words::of_bits;
+use words::quot;
 use words::wrapping_mul;
 ghost use mathlib.Core.Path.{_≡_};
-ghost use mathlib.Core.Logic.{_≢_};
-ghost use lib.IntN.{pos};
-ghost use lib.Signed.{quotZ};
 ghost use Rattle.meaning.specs.Number as point;
 ghost use Rattle.number.specs.Maybe.{maybe};
 
@@ -24,13 +24,6 @@ ghost use Rattle.number.specs.Maybe.{maybe};
 pub enum Maybe {
     Is(i64),
     Nothing,
-}
-
-// The negative of x; that of MIN is MIN.
-pub fn neg(x: i64) -> i64
-    ensures { λ r. ⌜ r ≡ point.negative x ⌝ }
-{
-    if x == MIN { x } else { -x }
 }
 
 // The magnitude of x; that of MIN is MIN.
@@ -54,26 +47,11 @@ pub fn sub(x: i64, y: i64) -> i64
     of_bits(std::num::wrapping_sub_u64(bits(x), bits(y)))
 }
 
-// x divided by ONE, toward 0.
-pub fn milli(x: i64) -> i64
-    ensures { λ r. ⌜ r ≡ point.thousandth x ⌝ }
-{
-    x / ONE
-}
-
 // The product of x and y as thousandths: wrapped, then divided by ONE.
 pub fn mul(x: i64, y: i64) -> i64
     ensures { λ r. ⌜ r ≡ point.product x y ⌝ }
 {
     milli(wrapping_mul(x, y))
-}
-
-// x divided by y toward 0, wrapped: MIN by -1 is MIN.
-pub fn quot(x: i64, y: i64) -> i64
-    requires { ⌜ y ≢ pos 0 ⌝ }
-    ensures { λ r. ⌜ r ≡ point.wrap (quotZ x y) ⌝ }
-{
-    if y == -1 { neg(x) } else { x / y }
 }
 
 // The quotient of x and y as thousandths; a divisor 0 has none.

@@ -4,7 +4,6 @@
 use interval::sign::Ends;
 use number::MAX;
 use number::MIN;
-use number::milli;
 use slices::greater;
 use slices::lesser;
 use slices::put_one;
@@ -12,6 +11,7 @@ use slices::put_two;
 use wide::corners::corners;
 use wide::spread::Range;
 use wide::spread::spread_of;
+use words::milli;
 use words::wrapping_mul;
 ghost use mathlib.Core.Path.{_≡_};
 ghost use mathlib.Core.Bool.{_&&_};

@@ -1,5 +1,5 @@
 -- The rules of div by the tests that the code makes. Assumes nothing.
-use lib.IntN.{ℤ, pos, negsuc, _*ℤ_}
+use lib.IntN.{ℤ, pos, negsuc, predℤ, _*ℤ_}
 use lib.ListN.{length}
 use lib.Signed.{ltZ, quotZ, _≤ℤ_}
 use mathlib.Core.Path.{_≡_, refl, sym, ap, _∙_, subst}
@@ -104,7 +104,7 @@ module _ {a b t f : ℤ} (o : Proper a b) (r : t ≤ℤ f) (z : within t (pos 0)
     left-is : pastPart b t f ≡ each (λ u v. divPlain u v t f) (without MIN a b)
     left-is =
         let n : ltZ a MIN ≡ false = omega (zarith, o .low) in
-        sym (ap (λ (x : Bool). cond x (divPlain a (negsuc 9223372036854775808) t f) [] ++ pastPart b t f) n)
+        sym (ap (λ (x : Bool). cond x (divPlain a (predℤ MIN) t f) [] ++ pastPart b t f) n)
         ∙ each-cut (λ u v. divPlain u v t f) MIN a b (and-both (within a MIN b) (within t (negsuc 0) f) e .0)
 
     right-is : shortPart a b t ≡ each (divPlain a b) (without (negsuc 0) t f)

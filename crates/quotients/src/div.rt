@@ -6,10 +6,12 @@ use interval::pieces::holds;
 use interval::pieces::less;
 use number::MAX;
 use number::MIN;
+use number::ONE;
 use slices::put_one;
 use wide::exact::exact;
 use wide::spread::Range;
 use wide::spread::spread_of;
+use words::MINUS_MAX;
 ghost use mathlib.Core.Path.{_≡_};
 ghost use mathlib.Core.Bool.{true, false, cond};
 ghost use mathlib.Core.List.{[]};
@@ -29,7 +31,7 @@ fn div_piece(out: &mut [i64], a: i64, b: i64, t: i64, f: i64) -> usize
 {
     if both(a, MIN, b, t, -1, f) {
         let n = put_one(out, MIN, MIN);
-        let m = put_hull_if(&mut out[n..], less(MIN, b), -9223372036854775807, b, t, f);
+        let m = put_hull_if(&mut out[n..], less(MIN, b), MINUS_MAX, b, t, f);
         let i = n + m;
         let k = put_hull_if(&mut out[i..], less(t, -1), a, b, t, -2);
         i + k
@@ -43,8 +45,8 @@ fn div_part(out: &mut [i64], s: i64, e: i64, t: i64, f: i64) -> usize
     requires { ⌜ s ≤ℤ e ⌝ ∗ ⌜ t ≤ℤ f ⌝ ∗ ⌜ within t (pos 0) f ≡ false ⌝ ∗ ⌜ length (flat (divPart s e t f)) ≤ length (now out) ⌝ }
     ensures { λ r. ⌜ Wrote r (divPart s e t f) (now (out .exit)) (now (out .entry)) ⌝ }
 {
-    let p = exact(1000, s);
-    let q = exact(1000, e);
+    let p = exact(ONE, s);
+    let q = exact(ONE, e);
     let d = spread_of(p, q);
     match d {
         Range::Whole => put_one(out, MIN, MAX),

@@ -1,8 +1,8 @@
 // The hull of four corner quotients, for the plain cases of div.
-use number::quot;
 use slices::greater;
 use slices::lesser;
 use slices::put_one;
+use words::quot;
 ghost use mathlib.Core.Path.{_≡_};
 ghost use mathlib.Core.Bool.{cond};
 ghost use mathlib.Core.List.{[]};

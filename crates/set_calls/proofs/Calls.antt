@@ -116,7 +116,7 @@ no-need2 e n m = ap (λ (k : ℕ). 2 * k * n * m) e ∙ ap (λ (k : ℕ). k * m)
 
 -- ---- one operand: the right set {0} is not refused, and counts as one interval
 
-alone-refusal : (left : List ℤ) → refusal2 left (replicate 2 (pos 0)) ≡ refusal left
+pub alone-refusal : (left : List ℤ) → refusal2 left (replicate 2 (pos 0)) ≡ refusal left
 unfolding refusal2 refusal normal
 alone-refusal left = cond-case (λ (k : ℕ). k ≡ refusal left) (eqb (refusal left) 0) 0 (refusal left) (λ e. sym (eqb-true (refusal left) 0 e)) (λ _. refl)
 

@@ -16,11 +16,11 @@ ghost use Prim.Native.Nat.{_≤_};
 ghost use lib.ListN.{length};
 ghost use Rattle.meaning.specs.Number as point;
 ghost use Rattle.meaning.specs.NumberIntervals.{intervals, ofBools};
-ghost use Rattle.meaning.specs.SetCalls.{refusal2 as refused2, need2, returns1, out1, returns2, out2};
+ghost use Rattle.meaning.specs.SetCalls.{refusal as refused1, refusal2 as refused2, need2, returns1, out1, returns2, out2};
 ghost use Rattle.bools.specs.Reading.{boolsOf};
 ghost use Rattle.sets.specs.Sets.{Argument};
 ghost use Rattle.cores.specs.Operation.{factorOf, setOf, flagOf, op2Of};
-ghost use Rattle.replies.specs.Returning.{returned, replyFor, Ended, Handed};
+ghost use Rattle.replies.specs.Returning.{replyFor, Ended, Handed};
 ghost use Rattle.set_calls.specs.Walks.{walkOf, Walked};
 
 // The calls whose answer is made by one walk over both sets.
@@ -49,7 +49,7 @@ pub fn joined(
         ⌜ Ended (refused2 (now (left .entry)) (now (right .entry))) (need2 (factorOf op) (now (left .entry)) (now (right .entry)))
         (setOf op (intervals (now (left .entry))) (intervals (now (right .entry)))) (flagOf op flag (intervals (now (left .entry))) (intervals (now (right .entry))))
         (now (out .entry)) (now (work .entry)) r (now (out .exit)) (now (work .exit)) ⌝
-        ∗ ⌜ (returned r .number ≡ 0 → Argument (now (left .entry)) × Argument (now (right .entry))) ⌝ }
+        ∗ ⌜ (refused2 (now (left .entry)) (now (right .entry)) ≡ 0 → Argument (now (left .entry)) × Argument (now (right .entry))) ⌝ }
 {
     let k = refusal2(left, right);
     if k != 0 {
@@ -79,7 +79,7 @@ pub fn related(op: Relation, left: &[i64], right: &[i64], out: &mut [i64]) -> Re
     ensures { λ r.
         ⌜ (r ≡ replyFor (returns2 (op2Of op) (now (left .entry)) false (now (right .entry)) (now (out .entry)) []))
         × (now (out .exit) ≡ out2 (op2Of op) (now (left .entry)) false (now (right .entry)) (now (out .entry)) []) ⌝
-        ∗ ⌜ (returned r .number ≡ 0 → Argument (now (left .entry)) × Argument (now (right .entry))) ⌝ }
+        ∗ ⌜ (refused2 (now (left .entry)) (now (right .entry)) ≡ 0 → Argument (now (left .entry)) × Argument (now (right .entry))) ⌝ }
 {
     let k = refusal2(left, right);
     if k != 0 {
@@ -93,7 +93,7 @@ pub fn negated(left: &[i64], out: &mut [i64]) -> Reply
     ensures { λ r.
         ⌜ (r ≡ replyFor (returns1 point.not′ (now (left .entry)) false (now (out .entry)) []))
         × (now (out .exit) ≡ out1 point.not′ (now (left .entry)) false (now (out .entry)) []) ⌝
-        ∗ ⌜ (returned r .number ≡ 0 → Argument (now (left .entry))) ⌝ }
+        ∗ ⌜ (refused1 (now (left .entry)) ≡ 0 → Argument (now (left .entry))) ⌝ }
 {
     let k = refusal(left);
     if k != 0 {
@@ -120,7 +120,7 @@ pub fn walked(op: Walk, left: &[i64], right: &[i64], out: &mut [i64]) -> Reply
     ensures { λ r.
         ⌜ Handed (refused2 (now (left .entry)) (now (right .entry))) 0 (walkOf op (intervals (now (left .entry))) (intervals (now (right .entry)))) false
         (now (out .entry)) r (now (out .exit)) ⌝
-        ∗ ⌜ (returned r .number ≡ 0 → Argument (now (left .entry)) × Argument (now (right .entry))) ⌝ }
+        ∗ ⌜ (refused2 (now (left .entry)) (now (right .entry)) ≡ 0 → Argument (now (left .entry)) × Argument (now (right .entry))) ⌝ }
 {
     let k = refusal2(left, right);
     if k != 0 {

@@ -29,7 +29,7 @@ zeros n = replicate n (pos 0)
 
 -- the first i registers hold {0}, and the numbers behind them are still 0
 abbrev pub started : ℕ → List ℤ
-started i = layout (replicate i (only (pos 0))) ++ zeros (528 - 33 * i)
+started i = layout (replicate i (only (pos 0))) ++ zeros (setsNeed - 33 * i)
 
 short-start : (i : ℕ) → length (layout (replicate i (only (pos 0)))) ≡ i * 33
 short-start i =
@@ -48,27 +48,27 @@ slot-zero : (l : List ℤ) → slot (only (pos 0)) ++ l ≡ pos 1 ∷ (zeros 32 
 unfolding slot flat
 slot-zero l = refl
 
-pub start-more : (i : ℕ) → i < 16 → set (started i) (33 * i) (pos 1) ≡ started (i + 1)
+pub start-more : (i : ℕ) → i < registers → set (started i) (33 * i) (pos 1) ≡ started (i + 1)
 start-more i h =
-    let n : 528 - 33 * i ≡ 33 + (528 - 33 * (i + 1)) = omega arith in
-    let r : zeros (528 - 33 * i) ≡ pos 0 ∷ (zeros 32 ++ zeros (528 - 33 * (i + 1))) = ap zeros n ∙ sym (replicate-append-replicate 33 (528 - 33 * (i + 1)) (pos 0)) in
+    let n : setsNeed - 33 * i ≡ 33 + (setsNeed - 33 * (i + 1)) = omega arith in
+    let r : zeros (setsNeed - 33 * i) ≡ pos 0 ∷ (zeros 32 ++ zeros (setsNeed - 33 * (i + 1))) = ap zeros n ∙ sym (replicate-append-replicate 33 (setsNeed - 33 * (i + 1)) (pos 0)) in
     ap (λ (l : List ℤ). set (layout (replicate i (only (pos 0))) ++ l) (33 * i) (pos 1)) r
-    ∙ set-at (layout (replicate i (only (pos 0)))) (pos 0) (zeros 32 ++ zeros (528 - 33 * (i + 1))) (pos 1) (33 * i) (short-start i ∙ let e : i * 33 ≡ 33 * i = omega arith in e)
-    ∙ ap (λ (l : List ℤ). layout (replicate i (only (pos 0))) ++ l) (sym (slot-zero (zeros (528 - 33 * (i + 1)))))
-    ∙ slot-last i (zeros (528 - 33 * (i + 1)))
-    ∙ ap (λ (m : ℕ). layout (replicate m (only (pos 0))) ++ zeros (528 - 33 * (i + 1))) (sym (add-one i))
+    ∙ set-at (layout (replicate i (only (pos 0)))) (pos 0) (zeros 32 ++ zeros (setsNeed - 33 * (i + 1))) (pos 1) (33 * i) (short-start i ∙ let e : i * 33 ≡ 33 * i = omega arith in e)
+    ∙ ap (λ (l : List ℤ). layout (replicate i (only (pos 0))) ++ l) (sym (slot-zero (zeros (setsNeed - 33 * (i + 1)))))
+    ∙ slot-last i (zeros (setsNeed - 33 * (i + 1)))
+    ∙ ap (λ (m : ℕ). layout (replicate m (only (pos 0))) ++ zeros (setsNeed - 33 * (i + 1))) (sym (add-one i))
 
 pub start-first : replicate setsNeed (pos 0) ≡ started 0
 unfolding layout
 start-first = refl
 
-pub start-last : started 16 ≡ layout (startSets .sets)
-start-last = append-nil (layout (replicate 16 (only (pos 0))))
+pub start-last : started registers ≡ layout (startSets .sets)
+start-last = append-nil (layout (replicate registers (only (pos 0))))
 
-pub started-length : (i : ℕ) → i ≤ 16 → length (started i) ≡ 528
+pub started-length : (i : ℕ) → i ≤ registers → length (started i) ≡ setsNeed
 started-length zero h = ap length (sym start-first) ∙ length-replicate setsNeed (pos 0)
 started-length (suc i) h =
-    let e : i < 16 = omega arith in
+    let e : i < registers = omega arith in
     ap (λ (m : ℕ). length (started m)) (sym (add-one i)) ∙ ap length (sym (start-more i e)) ∙ length-set (started i) (33 * i) (pos 1) ∙ started-length i (omega arith)
 
 -- ---- a register takes a set

@@ -1,4 +1,4 @@
-// One line of a sheet on the sets of the registers (01, "Sheet"): 528 numbers, for each register how many intervals its set has and 32 for their ends.
+// One line of a sheet on the sets of the registers (01, "Sheet"), as the check shows them: for each register how many intervals its set has and 32 for their ends.
 use limits::ENDS;
 use limits::INNER;
 use limits::REGISTERS;

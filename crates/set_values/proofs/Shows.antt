@@ -1,4 +1,4 @@
--- The 528 numbers show the sets: where register r's slot stands, and what stands there. Assumes nothing.
+-- The slots show the sets: where register r's slot stands, and what stands there. Assumes nothing.
 use mathlib.Core.Path.{_≡_, refl, sym, ap, subst, _∙_}
 use mathlib.Core.List.{List, [], _∷_, _++_, append-assoc, append-nil}
 use Prim.Native.Nat.{ℕ, zero, suc, _+_, _-_, _*_, _≤_, _<_}

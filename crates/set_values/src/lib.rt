@@ -67,7 +67,7 @@ fn amount(n: i64) -> usize
     n as usize
 }
 
-// The set of register r in the 528 numbers.
+// The set that register r's slot shows.
 pub fn register_set(regs: &[i64], r: usize) -> SetV
     requires { ⌜ Shown (now regs) × (r < registers) ⌝ }
     ensures { λ v. ⌜ v ≡ valueOf (ok (setIn (now (regs .entry)) r)) ⌝ }

@@ -15,11 +15,11 @@ part-zero t n e = sym (ap (partFor t) e)
 
 -- line n starts at `at` and ends at e
 module _ (t : List ℕ) (at : ℕ) {e : ℕ} (ee : e ≡ at + feed (drop at t)) where
-  pub part-there : (n : ℕ) → (n ≡ 0 → ⊥) → at ≡ length (cut t (n - 1)) → e < length t → record { start = at; count = e - at } ≡ partFor t n
+  pub part-there : (n : ℕ) → (n ≡ 0 → ⊥) → at ≡ length (cut t (n - 1)) → e < length t → record { start = at; len = e - at } ≡ partFor t n
   part-there zero h a l = absurd (h refl)
   part-there (suc n) h a l =
       let b : at ≡ length (cut t n) = rw sub-one at a in
-      rw (lt-ltb n (length (lines t)) (line-inside t n at b ee l), line-long t n at b ee l) (ap (λ (k : ℕ). record { start = k; count = e - at }) b)
+      rw (lt-ltb n (length (lines t)) (line-inside t n at b ee l), line-long t n at b ee l) (ap (λ (k : ℕ). record { start = k; len = e - at }) b)
 
   pub part-none : (n : ℕ) → (n ≡ 0 → ⊥) → at ≡ length (cut t (n - 1)) → length t ≤ e → nowhere ≡ partFor t n
   part-none zero h a l = absurd (h refl)

@@ -18,11 +18,11 @@ use lines::read_line;
 use refusals::MISPLACED;
 use refusals::MISSHAPEN;
 
-// Where a line starts in its text, and how many bytes it has.
+// Where a line starts in its text, and its length in bytes.
 #[repr(C)]
 pub struct Part {
     pub start: usize,
-    pub count: usize,
+    pub len: usize,
 }
 
 // Fine with its count of lines, or refused with a number and a line.
@@ -67,17 +67,17 @@ pub fn place(text: &[u8], n: usize) -> Part
     ensures { λ r. ⌜ Placed (now (text .entry)) n r ⌝ }
 {
     if n == 0 {
-        return Part { start: 0, count: 0 };
+        return Part { start: 0, len: 0 };
     }
     let at = line_start(text, n - 1);
     let e = line_end(text, at);
     if e < text.len() {
         Part {
             start: at,
-            count: e - at,
+            len: e - at,
         }
     } else {
-        Part { start: 0, count: 0 }
+        Part { start: 0, len: 0 }
     }
 }
 
@@ -87,7 +87,7 @@ pub fn line(text: &[u8], n: usize) -> &[u8]
 {
     let p = place(text, n);
     let start = p.start;
-    let end = start + p.count;
+    let end = start + p.len;
     &text[start..end]
 }
 

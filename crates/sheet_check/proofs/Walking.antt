@@ -168,10 +168,10 @@ module _ (t : List ℕ) (count : ℕ) (regs : List ℤ) (n at : ℕ) (g : Loopin
 -- ---- what is left in the slices; x is what the check of the text comes to
 
 module _ {r : Answer} {after : List ℤ} {x : Judged Bands} (c : Checked r after x) where
-  pub sets-passed : isPass r ≡ true → (old : List ℤ) {new : List ℤ} → new ≡ over (take 528 after) old → new ≡ setsLeftBy old x
+  pub sets-passed : isPass r ≡ true → (old : List ℤ) {new : List ℤ} → new ≡ over (take setsNeed after) old → new ≡ setsLeftBy old x
   sets-passed p old e =
       let q = c .passes p in
-      e ∙ ap (λ (l : List ℤ). over l old) (take-all 528 after (omega (arith, q .4)) ∙ q .3) ∙ ap (setsLeftBy old) (sym (q .2))
+      e ∙ ap (λ (l : List ℤ). over l old) (take-all setsNeed after (omega (arith, q .4)) ∙ q .3) ∙ ap (setsLeftBy old) (sym (q .2))
 
   pub sets-stopped : isPass r ≡ false → {old new : List ℤ} → new ≡ old → new ≡ setsLeftBy old x
   sets-stopped p {old} e = let q = c .stops p in e ∙ ap (setsLeftBy old) (sym (q .4))
@@ -183,11 +183,11 @@ module _ {r : Answer} {after : List ℤ} {x : Judged Bands} (c : Checked r after
       go true p = e ∙ ap (workLeftBy old) (sym (c .passes p .2))
       go false p = e ∙ ap (workLeftBy old) (sym (c .stops p .4))
 
--- the first 8192 numbers were lent, and zeroed afterwards
-pub zeroed : (old part : List ℤ) → length part ≡ 8192 → over (replicate workNeed (pos 0)) (part ++ drop 8192 old) ≡ over (replicate workNeed (pos 0)) old
+-- the first workNeed numbers were lent, and zeroed afterwards
+pub zeroed : (old part : List ℤ) → length part ≡ workNeed → over (replicate workNeed (pos 0)) (part ++ drop workNeed old) ≡ over (replicate workNeed (pos 0)) old
 zeroed old part l =
-    over-same (replicate workNeed (pos 0)) (part ++ drop 8192 old) old
-    (ap (λ (n : ℕ). drop n (part ++ drop 8192 old)) (length-replicate workNeed (pos 0)) ∙ drop-at part (drop 8192 old) 8192 l ∙ ap (λ (n : ℕ). drop n old) (sym (length-replicate workNeed (pos 0))))
+    over-same (replicate workNeed (pos 0)) (part ++ drop workNeed old) old
+    (ap (λ (n : ℕ). drop n (part ++ drop workNeed old)) (length-replicate workNeed (pos 0)) ∙ drop-at part (drop workNeed old) workNeed l ∙ ap (λ (n : ℕ). drop n old) (sym (length-replicate workNeed (pos 0))))
 
 -- ---- the call
 
@@ -202,25 +202,25 @@ module _ (t : List ℕ) (sets work : List ℤ) where
     work-left = d ∙ ap (workLeftBy work) (sym e);
   }
 
-  short-sets : length sets < 528 → checkCall t sets work ≡ refused tooShort 0
+  short-sets : length sets < setsNeed → checkCall t sets work ≡ refused tooShort 0
   unfolding checkCall
   short-sets h = rw (lt-ltb (length sets) setsNeed h)
 
-  short-work : 528 ≤ length sets → length work < 8192 → checkCall t sets work ≡ refused tooShort 0
+  short-work : setsNeed ≤ length sets → length work < workNeed → checkCall t sets work ≡ refused tooShort 0
   unfolding checkCall
   short-work k h = rw (le-ltb (length sets) setsNeed k, lt-ltb (length work) workNeed h)
 
-  pub long-call : 528 ≤ length sets → 8192 ≤ length work → checkCall t sets work ≡ checkText intervalLimit t
+  pub long-call : setsNeed ≤ length sets → workNeed ≤ length work → checkCall t sets work ≡ checkText intervalLimit t
   unfolding checkCall
   long-call k h = rw (le-ltb (length sets) setsNeed k, le-ltb (length work) workNeed h)
 
-  pub called-short-sets : length sets < 528 → Called t sets work (answer.Refused 3 0) sets work
+  pub called-short-sets : length sets < setsNeed → Called t sets work (answer.Refused 3 0) sets work
   called-short-sets h = call-is (refused tooShort 0) (short-sets h) refl refl refl
 
-  pub called-short-work : 528 ≤ length sets → length work < 8192 → Called t sets work (answer.Refused 3 0) sets work
+  pub called-short-work : setsNeed ≤ length sets → length work < workNeed → Called t sets work (answer.Refused 3 0) sets work
   called-short-work k h = call-is (refused tooShort 0) (short-work k h) refl refl refl
 
-  module _ (k : 528 ≤ length sets) (h : 8192 ≤ length work) {j : Judgement} (ej : j ≡ judgementFor (read t)) where
+  module _ (k : setsNeed ≤ length sets) (h : workNeed ≤ length work) {j : Judgement} (ej : j ≡ judgementFor (read t)) where
     pub called-refused : {q l : ℕ} → j ≡ judgement.Refused q l → Called t sets work (answer.Refused q l) sets work
     unfolding checkText
     called-refused {q} {l} e = call-is (refused q l) (long-call k h ∙ ap (judge (check intervalLimit)) (refused-read t ej e)) refl refl refl

@@ -1,4 +1,4 @@
-// The check of a sheet (01, "Sheet"): one set a register, worked line by line. It works on 528 numbers of its own; the lent sets are written on a pass only.
+// The check of a sheet (01, "Sheet"): one set a register, worked line by line. It works on an array of its own; the lent sets are written on a pass only.
 use limits::SETS;
 use limits::WORK;
 use refusals::FINDINGS;

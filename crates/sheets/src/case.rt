@@ -95,7 +95,7 @@ fn read_places(fd: i32, s: &mut [i64], n: usize) {
     }
 }
 
-// The sets as the check is to leave them: as lent, or after a pass the 528 numbers, of which those that are not 0 are stored.
+// The sets as the check is to leave them: as lent, or after a pass those of the registers, of which those that are not 0 are stored.
 pub fn read_sets(fd: i32, c: Case, want: &mut [i64]) -> bool {
     fill(want, OLD_SETS);
     if c.checked.kind != 0 {

@@ -7,6 +7,9 @@ use replay::read_front;
 use replay::same;
 use replay::wide;
 use replies::Reply;
+ghost use mathlib.Core.Path.{_≡_};
+ghost use mathlib.Core.Bool.{true};
+ghost use Rattle.vectors.specs.Expected.{Expected};
 
 // What the slices hold when they are lent; no case has these numbers.
 const OLD_WORK: i64 = -7777777;
@@ -71,10 +74,12 @@ fn call(
 }
 
 // Whether the reply is the one expected: a refusal by its number, success by count and flag.
-fn as_expected(reply: Reply, number: u8, count: usize, flag: bool) -> bool {
+fn as_expected(reply: Reply, number: u8, count: usize, flag: bool) -> bool
+    ensures { λ r. ⌜ (r ≡ true → Expected reply number count flag) × (Expected reply number count flag → r ≡ true) ⌝ }
+{
     match reply {
-        Reply::Written(n, f) => number == 0 && n == count && f == flag,
-        Reply::Refused(k) => number != 0 && k == number,
+        Reply::Written(n, f) => (number == 0) & (n == count) & (f == flag),
+        Reply::Refused(k) => (number != 0) & (k == number),
     }
 }
 

@@ -2,20 +2,22 @@
 use crate::product::Wide;
 use crate::product::full;
 use crate::word::word;
+use words::SIGN;
 ghost use mathlib.Core.Path.{_≡_};
 ghost use Prim.Native.Nat.{_+_, _-_, _/_, _%_, _^_, _≤_};
 ghost use lib.IntN.{_*ℤ_};
 ghost use Rattle.wide.specs.Exact.{held};
 
+// 2^63 with a carry, and less a borrow.
+const CARRIED: u64 = SIGN + 1;
+
+const BORROWED: u64 = SIGN - 1;
+
 // How far w is from 2^63: the magnitude of the number whose word is w.
 fn size(w: u64) -> u64
     ensures { λ r. ⌜ r ≡ w - 2 ^ 63 + (2 ^ 63 - w) ⌝ }
 {
-    if w < 9223372036854775808 {
-        9223372036854775808 - w
-    } else {
-        w - 9223372036854775808
-    }
+    if w < SIGN { SIGN - w } else { w - SIGN }
 }
 
 // m above the middle, 2^127 + 2^63.
@@ -25,15 +27,15 @@ fn above(m: Wide) -> Wide
 {
     let hi = m.hi;
     let lo = m.lo;
-    if lo < 9223372036854775808 {
+    if lo < SIGN {
         Wide {
-            hi: hi + 9223372036854775808,
-            lo: lo + 9223372036854775808,
+            hi: hi + SIGN,
+            lo: lo + SIGN,
         }
     } else {
         Wide {
-            hi: hi + 9223372036854775809,
-            lo: lo - 9223372036854775808,
+            hi: hi + CARRIED,
+            lo: lo - SIGN,
         }
     }
 }
@@ -45,15 +47,15 @@ fn below(m: Wide) -> Wide
 {
     let hi = m.hi;
     let lo = m.lo;
-    if lo <= 9223372036854775808 {
+    if lo <= SIGN {
         Wide {
-            hi: 9223372036854775808 - hi,
-            lo: 9223372036854775808 - lo,
+            hi: SIGN - hi,
+            lo: SIGN - lo,
         }
     } else {
         Wide {
-            hi: 9223372036854775807 - hi,
-            lo: 18446744073709551615 - lo + 9223372036854775809,
+            hi: BORROWED - hi,
+            lo: 18446744073709551615 - lo + CARRIED,
         }
     }
 }
@@ -65,17 +67,9 @@ pub fn exact(x: i64, y: i64) -> Wide
     let a = word(x);
     let b = word(y);
     let m = full(size(a), size(b));
-    if a < 9223372036854775808 {
-        if b < 9223372036854775808 {
-            above(m)
-        } else {
-            below(m)
-        }
+    if a < SIGN {
+        if b < SIGN { above(m) } else { below(m) }
     } else {
-        if b < 9223372036854775808 {
-            below(m)
-        } else {
-            above(m)
-        }
+        if b < SIGN { below(m) } else { above(m) }
     }
 }

@@ -1,6 +1,7 @@
 // The wrapped values of all the numbers between two exact ones.
 use crate::product::Wide;
 use crate::word::unword;
+use words::SIGN;
 ghost use mathlib.Core.Path.{_≡_};
 ghost use lib.Signed.{_≤ℤ_};
 ghost use Rattle.meaning.specs.Interval.{far, spread};
@@ -13,6 +14,9 @@ pub enum Range {
     One(i64, i64),
     Two(i64, i64),
 }
+
+// The upper word of the exact numbers in window 0.
+const MIDDLE: u64 = SIGN;
 
 // Whether q - p is 2^64 - 1 or more.
 fn far_apart(p: Wide, q: Wide) -> bool
@@ -60,7 +64,7 @@ pub fn spread_of(p: Wide, q: Wide) -> Range
     if h == k {
         return Range::One(u, v);
     }
-    if h == 9223372036854775808 {
+    if h == MIDDLE {
         Range::Two(v, u)
     } else {
         Range::Two(u, v)

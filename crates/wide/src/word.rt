@@ -1,4 +1,6 @@
 // An i64 as the word x + 2^63, which keeps the order.
+use words::MIN;
+use words::SIGN;
 ghost use mathlib.Core.Path.{_≡_};
 ghost use Prim.Native.Nat.{_^_};
 ghost use lib.IntN.{pos, _+ℤ_};
@@ -8,9 +10,9 @@ pub fn word(x: i64) -> u64
     ensures { λ r. ⌜ pos r ≡ x +ℤ pos (2 ^ 63) ⌝ }
 {
     if x < 0 {
-        (x - -9223372036854775808) as u64
+        (x - MIN) as u64
     } else {
-        x as u64 + 9223372036854775808
+        x as u64 + SIGN
     }
 }
 
@@ -18,9 +20,9 @@ pub fn word(x: i64) -> u64
 pub fn unword(w: u64) -> i64
     ensures { λ r. ⌜ pos w ≡ r +ℤ pos (2 ^ 63) ⌝ }
 {
-    if w < 9223372036854775808 {
-        w as i64 + -9223372036854775808
+    if w < SIGN {
+        w as i64 + MIN
     } else {
-        (w - 9223372036854775808) as i64
+        (w - SIGN) as i64
     }
 }

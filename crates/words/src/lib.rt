@@ -1,8 +1,10 @@
 // A word is 64 bits, as a u64; a number is an i64, from MIN to MAX, and its bits are a word. Sums and products of words wrap at 2^64, and so do those of numbers.
+// Quotients go toward 0. Special is MIN: its negative and its quotient by -1 wrap to MIN.
 ghost use mathlib.Core.Path.{_≡_};
+ghost use mathlib.Core.Logic.{_≢_};
 ghost use Prim.Native.Nat.{_*_, _%_, _^_};
 ghost use lib.IntN.{pos, _-ℤ_, _*ℤ_};
-ghost use lib.Signed.{_≤ℤ_};
+ghost use lib.Signed.{_≤ℤ_, quotZ};
 ghost use Rattle.meaning.specs.Number as point;
 ghost use Rattle.laws.proofs.Wrapping.{low};
 
@@ -10,11 +12,14 @@ pub const MIN: i64 = -9223372036854775808;
 
 pub const MAX: i64 = 9223372036854775807;
 
+// The number after MIN, the least that has a positive counterpart.
+pub const MINUS_MAX: i64 = -MAX;
+
 // One unit, in thousandths.
 pub const ONE: i64 = 1000;
 
-// 2^63, the bits of MIN.
-const SIGN: u64 = 9223372036854775808;
+// 2^63, the bits of MIN, and its magnitude.
+pub const SIGN: u64 = 9223372036854775808;
 
 // The two's complement bits of x.
 pub fn bits(x: i64) -> u64
@@ -65,4 +70,26 @@ pub fn wrapping_mul(x: i64, y: i64) -> i64
     ensures { λ r. ⌜ r ≡ point.wrap (x *ℤ y) ⌝ }
 {
     of_bits(wrapping_mul_u64(bits(x), bits(y)))
+}
+
+// The negative of x; that of MIN is MIN.
+pub fn neg(x: i64) -> i64
+    ensures { λ r. ⌜ r ≡ point.negative x ⌝ }
+{
+    if x == MIN { x } else { -x }
+}
+
+// x divided by ONE, toward 0.
+pub fn milli(x: i64) -> i64
+    ensures { λ r. ⌜ r ≡ point.thousandth x ⌝ }
+{
+    x / ONE
+}
+
+// x divided by y toward 0, wrapped: MIN by -1 is MIN.
+pub fn quot(x: i64, y: i64) -> i64
+    requires { ⌜ y ≢ pos 0 ⌝ }
+    ensures { λ r. ⌜ r ≡ point.wrap (quotZ x y) ⌝ }
+{
+    if y == -1 { neg(x) } else { x / y }
 }

@@ -23,14 +23,14 @@ array-share-prefix-out c =
     let e : length (c .before .before .before .before .listing .last .1 .0) ≡ 11081 = search needs in
     omega arith
 
-slice-aggregate-write-all : tie.Need-slice-aggregate-write-all
-slice-aggregate-write-all c =
+slice-aggregate-print : tie.Need-slice-aggregate-print
+slice-aggregate-print c =
     let w = written-fits _ 11081 (sym (c .before .before .n .given .1) ∙ c .before .before .before .before .before .listing .ensures .0) in
     let e : length (c .before .before .before .before .before .listing .last .1 .0) ≡ 11081 = search needs in
     sym (length-take-le (c .before .before .n .given .0 .0) (c .before .before .before .before .before .listing .last .1 .0) (omega arith))
 
-write-all-requires : tie.Need-write-all-requires
-write-all-requires c κs = search needs
+print-requires : tie.Need-print-requires
+print-requires c κs = search needs
 
 enum-told : tie.Need-enum-told
 enum-told c = search needs
@@ -49,8 +49,8 @@ write-listing-spec =
     listing-requires
     enum-known-n
     array-share-prefix-out
-    slice-aggregate-write-all
-    write-all-requires
+    slice-aggregate-print
+    print-requires
     enum-told
     returns
     returns-2)

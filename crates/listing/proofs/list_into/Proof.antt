@@ -1,4 +1,5 @@
 -- What the check answers tells all that the text needs. Assumes nothing.
+use Rattle.meaning.specs.Check.{setsNeed, workNeed}
 use lib.ListN.{replicate, length-replicate}
 use lib.IntN.{pos}
 use Rattle.listing.proofs.Checked.{told-by}
@@ -21,7 +22,7 @@ slice-aggregate-told c = search needs
 told-requires : tie.Need-told-requires
 told-requires c κs =
     let s = c .before .before .before .before .before .before .before .before .before in
-    (told-by (s .args .text .now) (replicate 528 (pos 0)) (replicate 8192 (pos 0)) (length-replicate 528 (pos 0)) (length-replicate 8192 (pos 0)) (c .before .before .before .before .check .ensures), s .pre)
+    (told-by (s .args .text .now) (replicate setsNeed (pos 0)) (replicate workNeed (pos 0)) (length-replicate setsNeed (pos 0)) (length-replicate workNeed (pos 0)) (c .before .before .before .before .check .ensures), s .pre)
 
 same-length : tie.Need-same-length
 same-length c = search needs

@@ -12,7 +12,7 @@ refusal2-requires : tie.Need-refusal2-requires
 refusal2-requires c κs = search needs
 
 returns : tie.Need-returns
-returns c = (call-refused _ _ _ _ _ _ _ (c .before .refusal2 .ensures .0) (c .if1 .taken), c .before .refusal2 .ensures .1)
+returns c = (call-refused _ _ _ _ _ _ _ (c .before .refusal2 .ensures .0) (c .if1 .taken), λ e. c .before .refusal2 .ensures .1 (c .before .refusal2 .ensures .0 ∙ e))
 
 factor-requires : tie.Need-factor-requires
 factor-requires c κs = search needs

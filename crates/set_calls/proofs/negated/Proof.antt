@@ -14,7 +14,7 @@ refusal-requires : tie.Need-refusal-requires
 refusal-requires c κs = search needs
 
 returns : tie.Need-returns
-returns c = (handed-refused _ _ _ _ _ _ (c .before .refusal .ensures .0) (c .if1 .taken), c .before .refusal .ensures .1)
+returns c = (handed-refused _ _ _ _ _ _ (c .before .refusal .ensures .0) (c .if1 .taken), λ e. c .before .refusal .ensures .1 (c .before .refusal .ensures .0 ∙ e))
 
 of-set-requires : tie.Need-of-set-requires
 of-set-requires c κs = search needs

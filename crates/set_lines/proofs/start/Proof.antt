@@ -1,4 +1,5 @@
 -- Each turn lets one more register hold 0 alone.
+use Rattle.meaning.specs.Sheet.{registers}
 use mathlib.Core.Path.{_≡_, sym, ap, _∙_}
 use native.Mathlib.Omega.{arith}
 use Prim.Native.Nat.{_-_, _*_, _≤_}
@@ -12,10 +13,10 @@ use Rattle.set_lines.proofs.start.Statement.{statement}
 use Rattle.set_lines.proofs.start.Tie as tie
 
 abbrev Inv-loop : tie.InvT-loop
-Inv-loop regs₀ i₀ regs i = (i ≤ 16) × (regs ≡ started i)
+Inv-loop regs₀ i₀ regs i = (i ≤ registers) × (regs ≡ started i)
 
 abbrev μ-loop : tie.MeasureT-loop
-μ-loop regs₀ i₀ regs i = 16 - i
+μ-loop regs₀ i₀ regs i = registers - i
 
 loop-holds : tie.Need-loop-holds Inv-loop μ-loop
 loop-holds c = (omega arith, c .pre ∙ start-first)
@@ -42,7 +43,7 @@ same-length : tie.Need-same-length Inv-loop μ-loop
 same-length c = ap length (c .before .loop .inv .1) ∙ started-length (c .before .loop .i) (c .before .loop .inv .0) ∙ sym (ap length (c .before .before .pre) ∙ length-replicate setsNeed (pos 0))
 
 returns : tie.Need-returns Inv-loop μ-loop
-returns c = let h = c .before .loop .inv .0 in let e : c .before .loop .i ≡ 16 = omega arith in c .before .loop .inv .1 ∙ ap started e ∙ start-last
+returns c = let h = c .before .loop .inv .0 in let e : c .before .loop .i ≡ registers = omega arith in c .before .loop .inv .1 ∙ ap started e ∙ start-last
 
 pub start-spec : {M : Type 1} → statement M
 start-spec = tie.close (tie.spec Inv-loop μ-loop loop-holds mul-regs mul-regs-2 slice-set-of-regs add-i loop-less loop-again same-length returns)

@@ -25,7 +25,7 @@ part-result-end c = search needs
 returns : tie.Need-returns
 returns c =
     let p = c .before .before .place .result in
-    let n : p .start + p .count - p .start ≡ p .count = omega arith in
+    let n : p .start + p .len - p .start ≡ p .len = omega arith in
     ap (λ (k : ℕ). take k (drop (p .start) (c .before .before .before .before .args .text .now))) n ∙ c .before .before .place .ensures .bytes
 
 pub line-spec : {M : Type 1} → statement M

@@ -1,4 +1,4 @@
--- The lines are worked on 528 numbers of its own and the first 8192 of work.
+-- The lines are worked on an array of its own and the needed part of work.
 use mathlib.Core.Path.{refl, sym, _∙_}
 use native.Mathlib.Omega.{arith}
 use lib.Seq.{length-take-le}

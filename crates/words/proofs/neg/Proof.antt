@@ -6,8 +6,8 @@ use Rattle.meaning.specs.Number.{MIN, negative}
 use Rattle.laws.proofs.Integers.{zarith, up-neg, down-neg}
 use Rattle.laws.proofs.Machine.{num, lit, same, differ, neg-ok, neg-is, rd-fits, fits-out}
 use Rattle.laws.proofs.Wrapping.{wrap-is, wrap-id}
-use Rattle.number.proofs.neg.Statement.{statement}
-use Rattle.number.proofs.neg.Tie as tie
+use Rattle.words.proofs.neg.Statement.{statement}
+use Rattle.words.proofs.neg.Tie as tie
 
 returns : tie.Need-returns
 unfolding negative

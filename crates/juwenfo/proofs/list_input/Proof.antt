@@ -6,8 +6,8 @@ use Rattle.juwenfo.specs.Filled.{Filled}
 use Rattle.juwenfo.specs.declared.Fill.{Fill}
 use Rattle.juwenfo.specs.declared.Fill.the-variants as fill
 use borrow.Author.Needs.{needs}
-use Rattle.juwenfo.proofs.main.Statement.{statement}
-use Rattle.juwenfo.proofs.main.Tie as tie
+use Rattle.juwenfo.proofs.list_input.Statement.{statement}
+use Rattle.juwenfo.proofs.list_input.Tie as tie
 
 bytes-fit : {r : Fill} {n m : ℕ} → r ≡ fill.Bytes n → Filled r m → n ≤ m
 bytes-fit {m = m} e h = subst (λ (x : Fill). Filled x m) e h
@@ -47,8 +47,8 @@ returns c = search needs
 returns-2 : tie.Need-returns-2
 returns-2 c = search needs
 
-pub main-spec : {M : Type 1} → statement M
-main-spec =
+pub list-input-spec : {M : Type 1} → statement M
+list-input-spec =
     tie.close
     (tie.spec
     slice-aggregate-read-text

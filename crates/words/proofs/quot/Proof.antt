@@ -9,9 +9,9 @@ use mir.Facts.{toZ-ofZ}
 use Rattle.meaning.specs.Number.{negative}
 use Rattle.laws.proofs.Machine.{lit, ok, same, other, quot-ok, quot-is, quot-fits}
 use Rattle.laws.proofs.Wrapping.{wrap-id}
-use Rattle.number.proofs.Points.{quot-minus}
-use Rattle.number.proofs.quot.Statement.{statement}
-use Rattle.number.proofs.quot.Tie as tie
+use Rattle.words.proofs.Quotients.{quot-minus}
+use Rattle.words.proofs.quot.Statement.{statement}
+use Rattle.words.proofs.quot.Tie as tie
 
 minus : SFits w64 (negsuc 0)
 minus = lit _ tt

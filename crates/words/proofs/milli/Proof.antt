@@ -5,8 +5,8 @@ use mir.Val.{SFits}
 use Rattle.meaning.specs.Number.{ONE}
 use Rattle.laws.proofs.Integers.{zarith}
 use Rattle.laws.proofs.Machine.{lit, quot-ok, quot-is}
-use Rattle.number.proofs.milli.Statement.{statement}
-use Rattle.number.proofs.milli.Tie as tie
+use Rattle.words.proofs.milli.Statement.{statement}
+use Rattle.words.proofs.milli.Tie as tie
 
 scale : SFits w64 ONE
 scale = lit _ tt

@@ -1,0 +1,63 @@
+#!/usr/bin/env python3
+"""Compares worked examples with the library: cases.py FILE.. (each line of a file a JSON object; JUWENFO_LIBRARY names the shared object).
+
+An object has `call` and what is given to it, and what it is to answer; texts are strings of bytes (latin-1), numbers are thousandths:
+
+    listing  text; written
+    check    text; number, line, and on a pass sets: the ends of each register
+    run      text, lent; number, line, left: the numbers afterwards
+
+It says for each call how many agree and shows the first that differs. A call that is not listed here is counted apart.
+"""
+import collections
+import json
+import os
+import sys
+
+sys.path.insert(0, os.path.join(os.path.dirname(os.path.dirname(os.path.abspath(__file__))), "bindings", "python"))
+import juwenfo
+
+
+def listing(case, text):
+    return {"written": juwenfo.listing(text).decode("latin-1")}
+
+
+def check(case, text):
+    try:
+        sets = juwenfo.check(text)
+    except juwenfo.Trouble as t:
+        return {"number": t.number, "line": t.line}
+    return {"number": 0, "line": 0, "sets": [[x for interval in s for x in interval] for s in sets]}
+
+
+def run(case, text):
+    try:
+        return {"number": 0, "line": 0, "left": juwenfo.run(text, case["lent"])}
+    except juwenfo.Trouble as t:
+        return {"number": t.number, "line": t.line, "left": list(t.registers) or case["lent"]}
+
+
+if len(sys.argv) < 2:
+    sys.exit("usage: cases.py FILE..")
+CALLS = {"listing": listing, "check": check, "run": run}
+agree, differ, unknown = collections.Counter(), collections.Counter(), collections.Counter()
+for name in sys.argv[1:]:
+    for line in open(name):
+        case = json.loads(line)
+        call = case["call"]
+        if call not in CALLS:
+            unknown[call] += 1
+            continue
+        got = CALLS[call](case, case["text"].encode("latin-1"))
+        want = {k: case[k] for k in ("written", "number", "line", "sets", "left") if k in case}
+        if got == want:
+            agree[call] += 1
+            continue
+        if not differ[call]:
+            print("%s differs:\n%s\nbut the library says\n%s" % (call, line, got))
+        differ[call] += 1
+for call in CALLS:
+    print("%s: %d agree, %d differ" % (call, agree[call], differ[call]))
+for call, n in sorted(unknown.items()):
+    print("%s: %d not compared" % (call, n))
+sys.exit(sum(differ.values()) > 0)
