@@ -1,53 +1,19 @@
-// Stored cases: numbers read from a file, slices filled and compared, and a line of report for each operation. A stored number has eight bytes, the least
-// first, in two's complement. What a file holds is open: a call that reads one promises at most whether there is room for it.
+// Stored cases: numbers read from a file, slices filled and compared, and a line of report for each operation. What a file holds is open: a call that reads
+// one promises at most whether there is room for it.
 ghost use mathlib.Core.Path.{_≡_};
 ghost use mathlib.Core.Bool.{true, false, cond};
-ghost use Prim.Native.Nat.{_+_, _*_, _<_, _≤_};
+ghost use Prim.Native.Nat.{_≤_};
 ghost use lib.Dec.{leb, eqb};
 ghost use lib.ListN.{length, replicate};
-ghost use lib.IntN.{pos};
 ghost use Rattle.meaning.specs.Lists.{over};
-ghost use Rattle.meaning.specs.Number.{wrap};
-ghost use Rattle.replay.specs.Stored.{bitsAt};
 ghost use Rattle.replay.specs.Tallied.{more as oneMore, tallied};
 use libc::STDOUT_FILENO;
-
-// A byte as a length.
-pub fn wide(b: u8) -> usize
-    ensures { λ r. ⌜ r ≡ b ⌝ }
-{
-    b as usize
-}
-
-// Two bytes as a length, the least first.
-pub fn pair(low: u8, high: u8) -> usize
-    ensures { λ r. ⌜ r ≡ low + 256 * high ⌝ }
-{
-    wide(low) + 256 * wide(high)
-}
-
-// Four bytes as bits, the least first.
-fn half(a: u8, b: u8, c: u8, d: u8) -> u64
-    ensures { λ r. ⌜ r ≡ a + 256 * b + 65536 * (c + 256 * d) ⌝ }
-    ensures { λ r. ⌜ r < 4294967296 ⌝ }
-{
-    (pair(a, b) as u64) + 65536 * (pair(c, d) as u64)
-}
-
-// The number that eight bytes hold.
-pub fn number_in(b: &[u8; 8]) -> i64
-    ensures { λ r. ⌜ r ≡ wrap (pos (bitsAt 8 0 (now (b .entry)))) ⌝ }
-{
-    let low = half(b[0], b[1], b[2], b[3]);
-    let high = half(b[4], b[5], b[6], b[7]);
-    words::of_bits(low + 4294967296 * high)
-}
 
 // The next number of the file; bytes past its end read as 0.
 pub fn read_number(fd: i32) -> i64 {
     let mut b = [0u8; 8];
     io::read_full(fd, &mut b);
-    number_in(&b)
+    stored::number_in(&b)
 }
 
 // 8,256 zeros, more than any call needs. The `ensures` gives only the length, which lending the array as a slice needs.

@@ -1,24 +1,15 @@
 // A stored sheet: 32 bytes that say how long its parts are and what is expected, then the text, the numbers lent to the run, the numbers that it leaves,
 // the numbers of the check's sets that are not 0 with their places, and the listing.
-ghost use mathlib.Core.Path.{_≡_};
-ghost use mathlib.Core.Bool.{_&&_};
-ghost use Prim.Native.Nat.{_+_, _*_};
-ghost use lib.Dec.{eqb};
 use limits::SETS;
 use replay::fill;
 use replay::fill_front;
-use replay::pair;
-use replay::wide;
+use stored::Verdict;
+use stored::pair;
+use stored::verdict_in;
+use stored::wide;
 
 // What the sets hold when they are lent to the check.
 pub const OLD_SETS: i64 = -3333333;
-
-// What a call is to answer: 0 a success, 1 a finding or a stop, 2 a refusal; its number; its line, or the line count of a success.
-pub struct Verdict {
-    pub kind: u8,
-    pub number: u8,
-    pub line: usize,
-}
 
 // Lengths of the text, of the lent numbers, of the check's two slices and of the listing; how many numbers of the sets are stored; whether the work is
 // cleared; what reading, run and check answer; and a line number with the start and end of its bytes.
@@ -36,17 +27,6 @@ pub struct Case {
     pub line: usize,
     pub start: usize,
     pub end: usize,
-}
-
-// A verdict as it is stored, its line in two bytes.
-fn verdict_in(kind: u8, number: u8, low: u8, high: u8) -> Verdict
-    ensures { λ r. ⌜ (r .kind ≡ kind) × (r .number ≡ number) × (r .line ≡ low + 256 * high) ⌝ }
-{
-    Verdict {
-        kind,
-        number,
-        line: pair(low, high),
-    }
 }
 
 // The case that the stored bytes say.
@@ -68,18 +48,11 @@ pub fn case_in(b: &[u8; 32]) -> Case {
     }
 }
 
-// Whether an answer of this kind, number and line is the one expected.
-pub fn is_expected(e: Verdict, kind: u8, number: u8, line: usize) -> bool
-    ensures { λ r. ⌜ r ≡ ((eqb (e .kind) kind && eqb (e .number) number) && eqb (e .line) line) ⌝ }
-{
-    (e.kind == kind) & (e.number == number) & (e.line == line)
-}
-
 // One stored number of the sets, at its place.
 fn read_place(fd: i32, s: &mut [i64]) {
     let mut b = [0u8; 2];
     io::read_full(fd, &mut b);
-    let place = replay::pair(b[0], b[1]);
+    let place = pair(b[0], b[1]);
     let value = replay::read_number(fd);
     if place < s.len() {
         s[place] = value;

@@ -1,12 +1,12 @@
 // The check: its answer, the sets and the work that it leaves.
 use crate::case::Case;
 use crate::case::OLD_SETS;
-use crate::case::is_expected;
 use limits::WORK;
 use replay::fill;
 use replay::fill_front;
 use replay::same;
 use sheet_check::Answer;
+use stored::verdict_as_expected;
 
 // What the work holds when it is lent.
 const OLD_WORK: i64 = -4444444;
@@ -14,9 +14,9 @@ const OLD_WORK: i64 = -4444444;
 // The check answers as is expected.
 fn answers(c: Case, r: Answer) -> bool {
     match r {
-        Answer::Pass(n) => is_expected(c.checked, 0, 0, n),
-        Answer::Finding(k, l) => is_expected(c.checked, 1, k, l),
-        Answer::Refused(k, l) => is_expected(c.checked, 2, k, l),
+        Answer::Pass(n) => verdict_as_expected(c.checked, 0, 0, n),
+        Answer::Finding(k, l) => verdict_as_expected(c.checked, 1, k, l),
+        Answer::Refused(k, l) => verdict_as_expected(c.checked, 2, k, l),
     }
 }
 

@@ -1,13 +1,13 @@
 // Reading a text, and the line finder.
 use crate::case::Case;
-use crate::case::is_expected;
 use sheet::Judgement;
+use stored::verdict_as_expected;
 
 // The text is judged as is expected.
 pub fn judged(c: Case, text: &[u8]) -> bool {
     match sheet::judge_text(text) {
-        Judgement::Fine(n) => is_expected(c.judged, 0, 0, n),
-        Judgement::Refused(k, l) => is_expected(c.judged, 2, k, l),
+        Judgement::Fine(n) => verdict_as_expected(c.judged, 0, 0, n),
+        Judgement::Refused(k, l) => verdict_as_expected(c.judged, 2, k, l),
     }
 }
 

@@ -1,7 +1,7 @@
 // The point operations. A case is four numbers: both arguments, 1 or 0 for a result or none, and the result.
 use number::Maybe;
 use replay::Step;
-use replay::number_in;
+use stored::number_in;
 
 // An operation that always has an answer.
 fn some(x: i64) -> Maybe {

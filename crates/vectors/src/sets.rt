@@ -2,14 +2,12 @@
 use replay::Step;
 use replay::fill;
 use replay::fill_front;
-use replay::pair;
 use replay::read_front;
 use replay::same;
-use replay::wide;
 use replies::Reply;
-ghost use mathlib.Core.Path.{_≡_};
-ghost use mathlib.Core.Bool.{true};
-ghost use Rattle.vectors.specs.Expected.{Expected};
+use stored::pair;
+use stored::reply_as_expected;
+use stored::wide;
 
 // What the slices hold when they are lent; no case has these numbers.
 const OLD_WORK: i64 = -7777777;
@@ -73,16 +71,6 @@ fn call(
     }
 }
 
-// Whether the reply is the one expected: a refusal by its number, success by count and flag.
-fn as_expected(reply: Reply, number: u8, count: usize, flag: bool) -> bool
-    ensures { λ r. ⌜ (r ≡ true → Expected reply number count flag) × (Expected reply number count flag → r ≡ true) ⌝ }
-{
-    match reply {
-        Reply::Written(n, f) => (number == 0) & (n == count) & (f == flag),
-        Reply::Refused(k) => (number != 0) & (k == number),
-    }
-}
-
 // Makes the call on slices as long as the case says.
 fn make(op: u8, c: Case, left: &[i64], right: &[i64], work: &mut [i64], out: &mut [i64]) -> bool {
     let n = c.left;
@@ -109,7 +97,7 @@ fn make(op: u8, c: Case, left: &[i64], right: &[i64], work: &mut [i64], out: &mu
         &mut work[..lent],
         &mut out[..room],
     );
-    as_expected(reply, c.number, c.count, c.flag_after)
+    reply_as_expected(reply, c.number, c.count, c.flag_after)
 }
 
 // What work is lent with, and what it is to be afterwards.

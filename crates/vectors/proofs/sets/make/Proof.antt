@@ -38,8 +38,8 @@ slice-aggregate-call-4 c = simp length-take (omega arith)
 call-requires : tie.Need-call-requires
 call-requires c κs = search needs
 
-as-expected-requires : tie.Need-as-expected-requires
-as-expected-requires c κs = search needs
+reply-as-expected-requires : tie.Need-reply-as-expected-requires
+reply-as-expected-requires c κs = search needs
 
 same-length : tie.Need-same-length
 same-length c = search needs
@@ -65,7 +65,7 @@ make-spec =
     slice-relend-prefix-call-2
     slice-aggregate-call-4
     call-requires
-    as-expected-requires
+    reply-as-expected-requires
     same-length
     same-length-2
     returns-5)

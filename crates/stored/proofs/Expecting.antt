@@ -8,7 +8,7 @@ use native.Mathlib.Omega.{arith}
 use Rattle.laws.proofs.Integers.{and-both, and-yes, not-true}
 use Rattle.replies.specs.declared.Reply.{Reply}
 use Rattle.replies.specs.declared.Reply.the-variants.{Written, Refused}
-use Rattle.vectors.specs.Expected.{Expected}
+use Rattle.stored.specs.Expected.{Expected}
 
 flags-same : (a b : Bool) → Bool·beq a b ≡ true → a ≡ b
 flags-same true true e = refl

@@ -8,10 +8,10 @@ use lib.ListN.{getD}
 use mir.Facts.{toZ-ofZ}
 use Rattle.meaning.specs.Number.{wrap}
 use Rattle.laws.proofs.Machine.{ok}
-use Rattle.replay.specs.Stored.{bitsAt}
+use Rattle.stored.specs.Stored.{bitsAt}
 use borrow.Author.Needs.{needs}
-use Rattle.replay.proofs.number_in.Statement.{statement}
-use Rattle.replay.proofs.number_in.Tie as tie
+use Rattle.stored.proofs.number_in.Statement.{statement}
+use Rattle.stored.proofs.number_in.Tie as tie
 
 -- four bytes from place i on
 abbrev four : List ℕ → ℕ → ℕ

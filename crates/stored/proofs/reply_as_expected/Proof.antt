@@ -1,8 +1,8 @@
 -- By the reply's case, the comparison is true of the expected reply and of no other. Assumes nothing.
 use borrow.Author.Needs.{needs}
-use Rattle.vectors.proofs.Expecting.{written-expected, expected-written, refused-expected, expected-refused}
-use Rattle.vectors.proofs.sets.as_expected.Statement.{statement}
-use Rattle.vectors.proofs.sets.as_expected.Tie as tie
+use Rattle.stored.proofs.Expecting.{written-expected, expected-written, refused-expected, expected-refused}
+use Rattle.stored.proofs.reply_as_expected.Statement.{statement}
+use Rattle.stored.proofs.reply_as_expected.Tie as tie
 
 enum-known-reply : tie.Need-enum-known-reply
 enum-known-reply c = search needs
@@ -22,5 +22,5 @@ returns-2 c =
     let r = c .before .reply2 .given .1 in
     (refused-expected (a .number) (a .count) (a .flag) r, expected-refused (a .number) (a .count) (a .flag) r)
 
-pub as-expected-spec : {M : Type 1} → statement M
-as-expected-spec = tie.close (tie.spec enum-known-reply enum-known-reply-2 returns returns-2)
+pub reply-as-expected-spec : {M : Type 1} → statement M
+reply-as-expected-spec = tie.close (tie.spec enum-known-reply enum-known-reply-2 returns returns-2)
