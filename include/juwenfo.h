@@ -9,7 +9,7 @@
  * sub and mul keep it set where it is lent set with the left set. No call asks for the right set's flag, and not, and, or, le, lt, ne, union and intersect
  * answer false. So one flag does not speak for the calls before it: who chains calls keeps the OR of the flags of all answers on the way.
  *
- * Every call is total: it has no precondition on the numbers, bytes and lengths that it is given, and refuses by number instead (the listing by `fits`).
+ * Every call is total: it has no precondition on the numbers, bytes and lengths that it is given, and refuses by number instead.
  * What the caller sees to, for every call: each pointer is good for the length that follows it (NULL only with length 0), and what is behind a
  * pointer without const overlaps nothing else that is lent to the same call and is used by nobody else until it returns. docs/CALLERS.md says more.
  *
@@ -17,7 +17,7 @@
  *    1  a set of odd length, or not normal                         6  a line outside the grammar, or LO past HI
  *    2  a set of more than 32 numbers                              7  a literal beyond MIN..MAX
  *    3  a lent slice shorter than its call needs                   8  an `in` after another kind, or a second one for a register
- *    4  an answer longer than out                                  9  a form's set has over 16 intervals (check)
+ *    4  an answer or a text longer than out                        9  a form's set has over 16 intervals (check)
  *    5  over 256 lines, a line over 120 bytes, last LF missing
  *   20  a divisor may be 0 (check), or is 0 (run)     21  a hold is broken     22  a lent number outside its `in` (run)
  */
@@ -27,7 +27,7 @@
 #include <stddef.h>
 #include <stdint.h>
 
-#define JUWENFO_VERSION "0.1.0" /* the one place of it: the callers in Rust and Python take it from here */
+#define JUWENFO_VERSION "0.2.0" /* the one place of it: the callers in Rust and Python take it from here */
 
 /* An answer that is dropped may be a refusal: compilers that know how warn of it. */
 #if (defined __cplusplus && __cplusplus >= 201703L) || (defined __STDC_VERSION__ && __STDC_VERSION__ >= 202311L)
@@ -49,6 +49,7 @@ extern "C" {
 #define JUWENFO_LENT 16     /* numbers that the run needs, one a register */
 #define JUWENFO_TEXT 30976  /* bytes of the longest text that is not refused with 5 */
 #define JUWENFO_LISTING 11081 /* bytes that hold any listing: an out of so many is never too short */
+#define JUWENFO_PAGE 18688  /* bytes that hold any page: 73 for each of 16 intervals in each of 16 registers */
 
 /* ---- point operations */
 
@@ -148,15 +149,28 @@ JUWENFO_ANSWERS juwenfo_verdict juwenfo_check(const uint8_t *text, size_t text_l
  * line. After a refusal all are as lent. */
 JUWENFO_ANSWERS juwenfo_verdict juwenfo_run(const uint8_t *text, size_t text_len, int64_t *lent, size_t lent_len);
 
-/* fits: `count` bytes were written to out. Else the listing is longer than out, and count is 0. */
+/* ---- parts that write text
+ *
+ * 4 (out is too short) is judged last. After success the first `count` bytes of out are the text, and the rest is as lent; otherwise all of out is as lent.
+ * Each line of a text ends with LF, and no byte 0 follows.
+ */
+
+/* number 0: `count` bytes were written to out, line 0. Else the number of the refusal or finding, its line (0 for 4 and 5), and count 0. */
 typedef struct {
     size_t count;
-    bool fits;
-} juwenfo_listed;
+    size_t line;
+    uint8_t number;
+} juwenfo_text;
 
 /* The listing of any text, what the program prints for it: "pass N" and the sets of the registers with an `in` or a `put`, or "refused K L" or
- * "stop K L"; each line ends with LF, and no byte 0 follows. Refuses nothing. The rest of out is as lent; all of it, if the listing does not fit. */
-JUWENFO_ANSWERS juwenfo_listed juwenfo_listing(const uint8_t *text, size_t text_len, uint8_t *out, size_t out_len);
+ * "stop K L". Refuses nothing but 4. */
+JUWENFO_ANSWERS juwenfo_text juwenfo_listing(const uint8_t *text, size_t text_len, uint8_t *out, size_t out_len);
+
+/* The page of a sheet that passes: a line of 72 characters for each interval of the registers with an `in` or a `put`, registers ascending, then starts.
+ * Columns 1 to 3 hold the register's name, left-set; 5 to 24 the start, right-set; 25 and 26 two points; 27 to 46 the end, right-set; 48 to 67 how many members
+ * the interval has, right-set; the others are blank. Starts and ends are in thousandths. The page may be empty: count 0.
+ * A sheet that does not pass has the number and line that juwenfo_check gives it where its slices are long enough: 5 to 9, 20, 21. Never 3. */
+JUWENFO_ANSWERS juwenfo_text juwenfo_page(const uint8_t *text, size_t text_len, uint8_t *out, size_t out_len);
 
 #ifdef __cplusplus
 }

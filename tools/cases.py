@@ -6,6 +6,7 @@ An object has `call` and what is given to it, and what it is to answer; texts ar
     listing  text; written
     check    text; number, line, and on a pass sets: the ends of each register
     run      text, lent; number, line, left: the numbers afterwards
+    page     text; number, line, written
 
 It says for each call how many agree and shows the first that differs. A call that is not listed here is counted apart.
 """
@@ -37,9 +38,16 @@ def run(case, text):
         return {"number": t.number, "line": t.line, "left": list(t.registers) or case["lent"]}
 
 
+def page(case, text):
+    try:
+        return {"number": 0, "line": 0, "written": juwenfo.page(text).decode("latin-1")}
+    except juwenfo.Trouble as t:
+        return {"number": t.number, "line": t.line, "written": ""}
+
+
 if len(sys.argv) < 2:
     sys.exit("usage: cases.py FILE..")
-CALLS = {"listing": listing, "check": check, "run": run}
+CALLS = {"listing": listing, "check": check, "run": run, "page": page}
 agree, differ, unknown = collections.Counter(), collections.Counter(), collections.Counter()
 for name in sys.argv[1:]:
     for line in open(name):

@@ -1,5 +1,5 @@
-"""Document 01 in plain Python integers: point operations, set calls on lent slices, sheets. It uses nothing of crates/meaning, and is used to make
-the stored cases of crates/vectors and crates/sheets."""
+"""Document 01, and what document 02 adds, in plain Python integers: point operations, set calls on lent slices, sheets. It uses nothing of crates/meaning,
+and is used to make the stored cases of crates/vectors and crates/sheets."""
 MIN, MAX = -2**63, 2**63 - 1
 FULL = 2**64
 ONE = 1000
@@ -438,18 +438,40 @@ def check(text, sets, work):
     if v[0] == 'pass': return v[:2], layout(v[2]) + sets[33 * REGS:], clean
     return v, sets, clean
 
+def shown(lines):
+    """the registers with an `in` or `put`, ascending"""
+    return sorted({l[1] for l in lines if l[0] != 'hold'})
+
 def listing(text):
     v = check_sets(text)
     if v[0] != 'pass': return ('%s %d %d\n' % v).encode()
     got = 'pass %d\n' % v[1]
-    shown = sorted({l[1] for l in judge(text) if l[0] != 'hold'})
-    for r in shown:
+    for r in shown(judge(text)):
         got += 'r%d' % r + ''.join(' %d..%d' % i for i in v[2][r]) + '\n'
     return got.encode()
+
+# ---------------------------------------------------------------- page, document 02 (i)
+def page_line(r, s, e):
+    """72 columns, counted from 1, and LF; each field is given its first and last column"""
+    columns = [' '] * 72
+    fields = ((1, 3, 'r%d' % r, str.ljust), (5, 24, str(s), str.rjust), (25, 26, '..', str.ljust), (27, 46, str(e), str.rjust), (48, 67, str(e - s + 1), str.rjust))
+    for first, last, word, set_to in fields:
+        width = last - first + 1
+        assert len(word) <= width, word
+        columns[first - 1:last] = set_to(word, width)
+    return ''.join(columns) + '\n'
+
+def page(text):
+    """(0, 0, bytes written) / (number, line, none) as the check, for a long enough output"""
+    v = check_sets(text)
+    if v[0] != 'pass': return v[1], v[2], b''
+    return 0, 0, ''.join(page_line(r, s, e) for r in shown(judge(text)) for s, e in sorted(v[2][r])).encode()
 
 if __name__ == '__main__':
     own = b'(in 0 -1 2)\n(put 1 (mul (reg 0) 2.5))\n(hold 1 -3 5)\n'
     assert listing(own) == b'pass 3\nr0 -1000..2000\nr1 -2500..5000\n'
+    assert page(own)[2] == b'r0                 -1000..                2000                 3001     \nr1                 -2500..                5000                 7501     \n'
+    assert page(b'(in 15 -9223372036854775.808 9223372036854775.807)\n')[2] == b'r15 -9223372036854775808.. 9223372036854775807 18446744073709551616     \n'
     v = lambda op, A, B=None: value(op, A, False, B)
     assert v('neg', [(MIN, -1)])[0] == [(MIN, MIN), (1, MAX)]
     assert v('add', [(MAX - 2, MAX)], [(1, 1)])[0] == [(MIN, MIN), (MAX - 1, MAX)]

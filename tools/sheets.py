@@ -1,5 +1,5 @@
 #!/usr/bin/env python3
-"""Writes crates/sheets/data/sheets: small sheets, good and damaged, with what reading, run, check, listing and line finder give.
+"""Writes crates/sheets/data/sheets: small sheets, good and damaged, with what reading, run, check, listing, line finder and page give.
 
     sheets.py DATA
 
@@ -317,6 +317,31 @@ def rambles():
             add(bytes(broken), lent)
 
 
+# ---- pages
+
+def pages():
+    low, high = '-9223372036854775.808', '9223372036854775.807'
+    add('(in 15 %s %s)\n' % (low, high), lent_at(r15=-1))
+    add('(in 15 %s 9223372036854775.806)\n(in 10 -9223372036854775.807 %s)\n(in 9 %s 0)\n(in 1 0 %s)\n' % (low, high, low, high), lent_at(r15=MIN, r10=MAX, r9=-5, r1=5))
+    add('(in 0 %s -0.001)\n(put 11 (neg (reg 0)))\n(put 2 (abs (reg 0)))\n' % low, lent_at(r0=-1))
+    add('(put 12 %s)\n(put 3 %s)\n(put 7 -0.001)\n(put 0 0)\n(put 10 -9223372036854775.807)\n' % (low, high))
+    add('(in 9 -1 1)\n(in 15 2 3)\n(in 0 -5 -4)\n(put 14 (reg 3))\n(put 1 (reg 9))\n(hold 8 0 0)\n', lent_at(r9=1, r15=2500, r0=-4500))
+    add('(in 4 0 9)\n(put 4 (add (reg 4) 1))\n(put 4 (mul (reg 4) 2))\n(hold 4 2 20)\n', lent_at(r4=3000))
+    add('(hold 3 0 0)\n(hold 12 -1 1)\n')
+    add('(put 5 (reg 6))\n')
+    # 16 intervals: of one number in all registers, the longest page; wider ones and their longest numbers in some
+    sixteen = bits(4, 2)
+    wider = '(put 2 (add (reg 1) (reg 0)))\n'
+    add(sixteen.replace('(in 0 -1 1)', '(in 0 -0.5 0.5)') + wider)
+    add(sixteen + ''.join('(put %d (reg 1))\n' % r for r in range(16)))
+    add(sixteen.replace('(in 0 -1 1)', '(in 0 -0.5 0.5)') + wider + '(put 1 (sub (reg 2) 9223372036854775))\n' + ''.join('(put %d (reg 1))\n' % r for r in (15, 8, 0)))
+    # one more line, and there is no page
+    add(sixteen + '(put 2 (add (reg 1) (le (reg 0) 0)))\n(hold 3 1 1)\n')
+    add(sixteen + '(hold 1 0 29.999)\n')
+    add(sixteen + '(put 2 (div 1 (reg 1)))\n')
+    add(sixteen + 'x\n')
+
+
 # ---- writing
 
 KINDS = {'done': 0, 'pass': 0, 'stop': 1, 'refused': 2}
@@ -336,21 +361,24 @@ def record(i, text, lent, sets, work):
     assert work_after == [0] * cleared + [-4] * (work - cleared) and (checked[0] == 'pass' or sets_after == [-3] * sets)
     pairs = [(n, z) for n, z in enumerate(sets_after[:528]) if z != 0] if checked[0] == 'pass' else []
     listed = rules.listing(text)
+    number, at, page = rules.page(text)
+    assert checked[1:] in ((number, at), (3, 0)) if number else checked[0] == 'pass' or checked[1] == 3
     line = i % 5
     part = rules.line_part(text, line)
     start = 0 if not part else sum(len(l) + 1 for l in text.split(b'\n')[:line - 1])
     assert text[start:start + len(part)] == part
     head = struct.pack('<H2B', len(text), len(lent), cleared // 8192)
     for v in (judged, ran, checked): head += struct.pack('<2BH', *verdict(v))
-    head += struct.pack('<8H', sets, work, len(pairs), len(listed), line, start, start + len(part), 0)
+    head += struct.pack('<8H', sets, work, len(pairs), len(listed), line, start, start + len(part), len(page))
+    head += struct.pack('<2BH', 0 if number == 0 else 1 if number >= 20 else 2, number, at)
     numbers = lent + left
-    return head + text + struct.pack('<%dq' % len(numbers), *numbers) + b''.join(struct.pack('<Hq', *p) for p in pairs) + listed
+    return head + text + struct.pack('<%dq' % len(numbers), *numbers) + b''.join(struct.pack('<Hq', *p) for p in pairs) + listed + page
 
 
 def main():
     own = '(in 0 -1 2)\n(put 1 (mul (reg 0) 2.5))\n(hold 1 -3 5)\n'
     add(own, lent_at(r0=1500))
-    for part in (texts, damaged, depths, literals, orders, operations, stops, crowds, slices, wraps, rambles): part()
+    for part in (texts, damaged, depths, literals, orders, operations, stops, crowds, slices, wraps, rambles, pages): part()
     seen = {}
     for text, lent, sets, work in CASES:
         v = rules.check(text, [0] * sets, [0] * work)[0]

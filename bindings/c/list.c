@@ -21,7 +21,7 @@ int main(int argc, char **argv) {
     size_t n = fread(text, 1, sizeof text, stdin);
     if (ferror(stdin))
         return fail("the sheet cannot be read");
-    juwenfo_listed l = juwenfo_listing(text, n, out, sizeof out);
+    juwenfo_text l = juwenfo_listing(text, n, out, sizeof out);
     fwrite(out, 1, l.count, stdout);
     return finish(0);
 }

@@ -3,7 +3,7 @@
 #include <stdio.h>
 #include <string.h>
 
-_Static_assert(sizeof(juwenfo_maybe) == 16 && sizeof(juwenfo_answer) == 16 && sizeof(juwenfo_part) == 16 && sizeof(juwenfo_verdict) == 24 && sizeof(juwenfo_listed) == 16, "sizes");
+_Static_assert(sizeof(juwenfo_maybe) == 16 && sizeof(juwenfo_answer) == 16 && sizeof(juwenfo_part) == 16 && sizeof(juwenfo_verdict) == 24 && sizeof(juwenfo_text) == 24, "sizes");
 
 static int faults;
 
@@ -78,18 +78,66 @@ static void sheets(void) {
     lent[0] = 9000;
     v = juwenfo_run(text, n, lent, JUWENFO_LENT);
     expect(v.number == 22 && v.line == 1, "run, stopped");
+}
+
+static uint8_t lines[JUWENFO_PAGE + 1];
+
+/* The call on `text` with `room` bytes of out answers with this number and line, writes `answer`, and no byte behind it. */
+static void writes(juwenfo_text call(const uint8_t *, size_t, uint8_t *, size_t), const char *text, size_t room, uint8_t number, size_t line, const char *answer, const char *what) {
+    memset(lines, 7, sizeof lines);
+    juwenfo_text t = call((const uint8_t *)text, strlen(text), lines, room);
+    size_t n = strlen(answer), end = n;
+    while (end < sizeof lines && lines[end] == 7)
+        end++;
+    expect(t.number == number && t.line == line && t.count == n && memcmp(lines, answer, n) == 0 && end == sizeof lines, what);
+}
+
+static const char *const scope = "(in 0 -1 2)\n(put 1 (mul (reg 0) 2.5))\n(hold 1 -3 5)\n";
+
+static void listings(void) {
     const char *answer = "pass 3\nr0 -1000..2000\nr1 -2500..5000\n";
-    uint8_t list[JUWENFO_LISTING];
-    juwenfo_listed l = juwenfo_listing(text, n, list, JUWENFO_LISTING);
-    expect(l.fits && l.count == strlen(answer) && memcmp(list, answer, l.count) == 0, "listing");
-    l = juwenfo_listing(text, n, list, strlen(answer) - 1);
-    expect(!l.fits && l.count == 0, "listing, too long");
+    size_t n = strlen(answer);
+    writes(juwenfo_listing, scope, JUWENFO_LISTING, 0, 0, answer, "listing");
+    writes(juwenfo_listing, scope, n, 0, 0, answer, "listing, of the length of out");
+    writes(juwenfo_listing, scope, n - 1, 4, 0, "", "listing, longer than out");
+    writes(juwenfo_listing, "x\n", JUWENFO_LISTING, 0, 0, "refused 6 1\n", "listing of a refusal");
+    writes(juwenfo_listing, "x\n", 0, 4, 0, "", "listing of a refusal, longer than out");
+}
+
+/* Sixteen registers with 16 intervals each. */
+#define COPY(r) "(put " #r " (reg 1))\n"
+static const char *const most = "(in 0 -1 1)\n(put 1 (mul 2 (le (reg 0) 0)))\n(put 1 (add (reg 1) (mul 4 (le (reg 0) 0))))\n"
+                                "(put 1 (add (reg 1) (mul 8 (le (reg 0) 0))))\n(put 1 (add (reg 1) (mul 16 (le (reg 0) 0))))\n" COPY(0) COPY(2) COPY(3) COPY(4) COPY(5)
+                                    COPY(6) COPY(7) COPY(8) COPY(9) COPY(10) COPY(11) COPY(12) COPY(13) COPY(14) COPY(15);
+
+static void pages(void) {
+    const char *answer = "r0                 -1000..                2000                 3001     \n"
+                         "r1                 -2500..                5000                 7501     \n";
+    size_t n = strlen(answer);
+    writes(juwenfo_page, scope, JUWENFO_PAGE, 0, 0, answer, "page");
+    writes(juwenfo_page, scope, n, 0, 0, answer, "page, of the length of out");
+    writes(juwenfo_page, scope, n - 1, 4, 0, "", "page, longer than out");
+    writes(juwenfo_page, scope, 0, 4, 0, "", "page, no out");
+    writes(juwenfo_page, "(in 15 -9223372036854775.808 9223372036854775.807)\n", JUWENFO_PAGE, 0, 0,
+           "r15 -9223372036854775808.. 9223372036854775807 18446744073709551616     \n", "page of the whole range");
+    writes(juwenfo_page, "", JUWENFO_PAGE, 0, 0, "", "page of an empty sheet");
+    writes(juwenfo_page, "(hold 0 0 0)\n", 0, 0, 0, "", "page without lines, no out");
+    expect(juwenfo_page(NULL, 0, NULL, 0).number == 0, "page, no bytes at all");
+    writes(juwenfo_page, "(put 0 1)\n(hold 0 2 3)\n", 0, 21, 2, "", "page of a finding, no out");
+    writes(juwenfo_page, "(put 0 (div 1 0))\n", JUWENFO_PAGE, 20, 1, "", "page of a finding");
+    writes(juwenfo_page, "(put 0 1)\nx\n", 0, 6, 2, "", "page of a refusal, no out");
+    writes(juwenfo_page, "x", JUWENFO_PAGE, 5, 0, "", "page of a refusal");
+    juwenfo_text t = juwenfo_page((const uint8_t *)most, strlen(most), lines, JUWENFO_PAGE);
+    expect(t.number == 0 && t.count == JUWENFO_PAGE, "the longest page");
+    writes(juwenfo_page, most, JUWENFO_PAGE - 1, 4, 0, "", "the longest page, longer than out");
 }
 
 int main(void) {
     numbers();
     sets();
     sheets();
+    listings();
+    pages();
     printf("%d faults\n", faults);
     return faults != 0;
 }

@@ -15,7 +15,7 @@ import os
 
 MIN, MAX, ONE = -(1 << 63), (1 << 63) - 1, 1000
 REGISTERS, SLOT, WORK = 16, 33, 8192
-LISTING = 11081  # bytes that hold any listing
+LISTING, PAGE = 11081, 18688  # bytes that hold any listing, and any page
 
 WORDS = {  # each number that there is, with what it means: 1 to 9 are refusals, 20 to 22 findings
     1: "a set has an odd number of ends, or is not sorted with a gap between its intervals",
@@ -71,8 +71,8 @@ class _Verdict(ctypes.Structure):
     _fields_ = [("line", ctypes.c_size_t), ("count", ctypes.c_size_t), ("number", ctypes.c_uint8)]
 
 
-class _Listed(ctypes.Structure):
-    _fields_ = [("count", ctypes.c_size_t), ("fits", ctypes.c_bool)]
+class _Text(ctypes.Structure):
+    _fields_ = [("count", ctypes.c_size_t), ("line", ctypes.c_size_t), ("number", ctypes.c_uint8)]
 
 
 _lib = ctypes.CDLL(os.environ.get("JUWENFO_LIBRARY") or os.path.join(os.path.dirname(os.path.abspath(__file__)), "libjuwenfo.so"))
@@ -185,7 +185,8 @@ _line = _declared("line", _TEXT + [ctypes.c_size_t], _Part)
 _judge = _declared("judge", _TEXT, _Verdict)
 _check = _declared("check", _TEXT + _SLICE + _SLICE, _Verdict)
 _run = _declared("run", _TEXT + _SLICE, _Verdict)
-_listing = _declared("listing", _TEXT + _BYTES, _Listed)
+_listing = _declared("listing", _TEXT + _BYTES, _Text)
+_page = _declared("page", _TEXT + _BYTES, _Text)
 
 
 def _count(v):
@@ -225,7 +226,17 @@ def run(text, lent=()):
     return numbers[:REGISTERS]
 
 
+def _printed(f, text, most):
+    """Calls with an out that holds every text of the part."""
+    out = (ctypes.c_char * most)()
+    return out[: _count(f(text, len(text), out, len(out)))]
+
+
 def listing(text):
     """The listing of any text, as the program prints it, in bytes: no text is refused."""
-    out = (ctypes.c_char * LISTING)()
-    return out[: _listing(text, len(text), out, len(out)).count]
+    return _printed(_listing, text, LISTING)
+
+
+def page(text):
+    """The page of a sheet that passes, in bytes: a line of 72 characters for each interval of the registers with an `in` or a `put`."""
+    return _printed(_page, text, PAGE)

@@ -1,4 +1,5 @@
 """Every call once, with an answer that document 01 marks or that is plain to see."""
+import ctypes
 import os
 import unittest
 
@@ -7,6 +8,13 @@ from juwenfo import MAX, MIN
 
 HEADER = os.path.join(os.path.dirname(os.path.abspath(__file__)), "../../include/juwenfo.h")
 SHEET = b"(in 0 -1 2)\n(put 1 (mul (reg 0) 2.5))\n(hold 1 -3 5)\n"
+
+
+def written(call, text, room):
+    """The number, line and count of a call on an out of `room` bytes 7, and what is left there and in one more byte 7 behind it."""
+    out = (ctypes.c_char * (room + 1))(*b"\7" * (room + 1))
+    t = call(text, len(text), out, room)
+    return t.number, t.line, t.count, out.raw
 
 
 class Calls(unittest.TestCase):
@@ -52,6 +60,33 @@ class Calls(unittest.TestCase):
     def test_listings(self):
         self.assertEqual(j.listing(SHEET), b"pass 3\nr0 -1000..2000\nr1 -2500..5000\n")
         self.assertEqual([j.listing(b""), j.listing(b"x"), j.listing(b"(hold 0 1 2)\n"), j.listing(b"\0\n")], [b"pass 0\n", b"refused 5 0\n", b"stop 21 1\n", b"refused 6 1\n"])
+
+    def test_pages(self):
+        answer = b"r0                 -1000..                2000                 3001     \nr1                 -2500..                5000                 7501     \n"
+        self.assertEqual(j.page(SHEET), answer)
+        whole = b"(in 15 -9223372036854775.808 9223372036854775.807)\n"
+        self.assertEqual(j.page(whole), b"r15 -9223372036854775808.. 9223372036854775807 18446744073709551616     \n")
+        self.assertEqual([j.page(b""), j.page(b"(hold 0 0 0)\n")], [b"", b""])
+        troubles = ((b"(put 0 1)\n(hold 0 2 3)\n", 21, 2), (b"(put 0 (div 1 0))\n", 20, 1), (b"(put 0 1)\nx\n", 6, 2), (b"x", 5, 0))
+        for text, number, line in troubles:
+            with self.assertRaises(j.Trouble) as e:
+                j.page(text)
+            self.assertEqual((e.exception.number, e.exception.line), (number, line))
+            for room in (0, 146):
+                self.assertEqual(written(j._page, text, room), (number, line, 0, b"\7" * (room + 1)))
+        self.assertEqual(written(j._page, SHEET, 150), (0, 0, 146, answer + b"\7" * 5))
+        self.assertEqual(written(j._page, SHEET, 146), (0, 0, 146, answer + b"\7"))
+        for room in (145, 0):
+            self.assertEqual(written(j._page, SHEET, room), (4, 0, 0, b"\7" * (room + 1)))
+        self.assertEqual(written(j._page, b"", 0), (0, 0, 0, b"\7"))
+        self.assertEqual(written(j._listing, b"", 6), (4, 0, 0, b"\7" * 7))
+
+    def test_longest_page(self):
+        steps = b"".join(b"(put 1 (add (reg 1) (mul %d (le (reg 0) 0))))\n" % step for step in (4, 8, 16))
+        copies = b"".join(b"(put %d (reg 1))\n" % r for r in range(j.REGISTERS))  # 16 intervals each
+        text = b"(in 0 -1 1)\n(put 1 (mul 2 (le (reg 0) 0)))\n" + steps + copies
+        self.assertEqual(len(j.page(text)), j.PAGE)
+        self.assertEqual(written(j._page, text, j.PAGE - 1)[:3], (4, 0, 0))
 
     def test_words_and_version(self):
         self.assertEqual(list(j.WORDS), [*range(1, 10), 20, 21, 22])

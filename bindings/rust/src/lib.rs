@@ -22,8 +22,10 @@ pub const WORK: usize = 8192;
 pub const LENT: usize = 16;
 /// Bytes that hold any listing.
 pub const LISTING: usize = 11081;
+/// Bytes that hold any page.
+pub const PAGE: usize = 18688;
 
-/// A refusal (3, 5 to 9) or a finding (20 to 22), and its line; the line is 0 for 3 and 5.
+/// A refusal (3 to 9) or a finding (20 to 22), and its line; the line is 0 for 3, 4 and 5.
 #[derive(Clone, Copy, Debug, PartialEq, Eq)]
 pub struct Trouble {
     /// The number of the refusal or finding.
@@ -36,6 +38,13 @@ fn verdict(v: sys::Verdict) -> Result<usize, Trouble> {
     match v.number {
         0 => Ok(v.count),
         number => Err(Trouble { number, line: v.line }),
+    }
+}
+
+fn written(t: sys::Text) -> Result<usize, Trouble> {
+    match t.number {
+        0 => Ok(t.count),
+        number => Err(Trouble { number, line: t.line }),
     }
 }
 
@@ -70,10 +79,14 @@ pub fn run(text: &[u8], lent: &mut [i64]) -> Result<usize, Trouble> {
     verdict(unsafe { sys::juwenfo_run(text.as_ptr(), text.len(), lent.as_mut_ptr(), lent.len()) })
 }
 
-/// The listing of any text at the front of `out`, as the program prints it: how many bytes it has. The rest of `out` is as lent. `None` if it is longer than
-/// `out`, and then all of `out` is as lent; [`LISTING`] bytes are always enough.
-#[must_use]
-pub fn listing(text: &[u8], out: &mut [u8]) -> Option<usize> {
-    let l = unsafe { sys::juwenfo_listing(text.as_ptr(), text.len(), out.as_mut_ptr(), out.len()) };
-    l.fits.then_some(l.count)
+/// The listing of any text at the front of `out`, as the program prints it: how many bytes it has. The rest of `out` is as lent. Trouble is 4 alone, where
+/// the listing is longer than `out`, and then all of `out` is as lent; [`LISTING`] bytes are always enough.
+pub fn listing(text: &[u8], out: &mut [u8]) -> Result<usize, Trouble> {
+    written(unsafe { sys::juwenfo_listing(text.as_ptr(), text.len(), out.as_mut_ptr(), out.len()) })
+}
+
+/// The page of a sheet that passes at the front of `out`: how many bytes it has, 73 for each interval. The rest of `out` is as lent. Trouble is that of the
+/// check (5 to 9, 20, 21), or else 4, where the page is longer than `out`, and then all of `out` is as lent; [`PAGE`] bytes are always enough.
+pub fn page(text: &[u8], out: &mut [u8]) -> Result<usize, Trouble> {
+    written(unsafe { sys::juwenfo_page(text.as_ptr(), text.len(), out.as_mut_ptr(), out.len()) })
 }

@@ -38,9 +38,10 @@ pub struct Verdict {
 #[repr(C)]
 #[must_use]
 #[derive(Clone, Copy)]
-pub struct Listed {
+pub struct Text {
     pub count: usize,
-    pub fits: bool,
+    pub line: usize,
+    pub number: u8,
 }
 
 extern "C" {
@@ -81,5 +82,6 @@ extern "C" {
     pub fn juwenfo_judge(text: *const u8, len: usize) -> Verdict;
     pub fn juwenfo_check(text: *const u8, len: usize, sets: *mut i64, sn: usize, work: *mut i64, wn: usize) -> Verdict;
     pub fn juwenfo_run(text: *const u8, len: usize, lent: *mut i64, n: usize) -> Verdict;
-    pub fn juwenfo_listing(text: *const u8, len: usize, out: *mut u8, n: usize) -> Listed;
+    pub fn juwenfo_listing(text: *const u8, len: usize, out: *mut u8, n: usize) -> Text;
+    pub fn juwenfo_page(text: *const u8, len: usize, out: *mut u8, n: usize) -> Text;
 }

@@ -1,6 +1,6 @@
 //! Every call once with an answer that document 01 marks or that is plain to see, and every refusal.
 use juwenfo::set::{self, Refused, Written};
-use juwenfo::{check, ends, judge, line, listing, number, run, Trouble, LISTING, SETS, VERSION, WORDS, WORK};
+use juwenfo::{check, ends, judge, line, listing, number, page, run, Trouble, LISTING, PAGE, SETS, VERSION, WORDS, WORK};
 
 const MIN: i64 = i64::MIN;
 const MAX: i64 = i64::MAX;
@@ -111,21 +111,57 @@ fn sheets() {
     assert_eq!(run(SHEET, &mut lent[..15]), Err(Trouble { number: 3, line: 0 }));
 }
 
+const SHORT: Trouble = Trouble { number: 4, line: 0 };
+
 #[test]
 fn listings() {
     let answer = b"pass 3\nr0 -1000..2000\nr1 -2500..5000\n";
     let mut out = [7; LISTING];
-    assert_eq!(listing(SHEET, &mut out), Some(answer.len()));
+    assert_eq!(listing(SHEET, &mut out), Ok(answer.len()));
     assert_eq!(out[..answer.len()], answer[..]);
     assert!(out[answer.len()..].iter().all(|&b| b == 7));
     out.fill(7);
-    assert_eq!(listing(SHEET, &mut out[..answer.len() - 1]), None);
+    assert_eq!(listing(SHEET, &mut out[..answer.len() - 1]), Err(SHORT));
     assert!(out.iter().all(|&b| b == 7));
-    assert_eq!(listing(SHEET, &mut out[..answer.len()]), Some(answer.len()));
-    assert_eq!((listing(b"x", &mut out), &out[..12]), (Some(12), &b"refused 5 0\n"[..]));
-    assert_eq!((listing(b"(hold 0 1 2)\n", &mut out), &out[..10]), (Some(10), &b"stop 21 1\n"[..]));
-    assert_eq!((listing(b"", &mut out), &out[..7]), (Some(7), &b"pass 0\n"[..]));
-    assert_eq!(listing(b"", &mut []), None);
+    assert_eq!(listing(SHEET, &mut out[..answer.len()]), Ok(answer.len()));
+    assert_eq!((listing(b"x", &mut out), &out[..12]), (Ok(12), &b"refused 5 0\n"[..]));
+    assert_eq!((listing(b"(hold 0 1 2)\n", &mut out), &out[..10]), (Ok(10), &b"stop 21 1\n"[..]));
+    assert_eq!((listing(b"", &mut out), &out[..7]), (Ok(7), &b"pass 0\n"[..]));
+    assert_eq!(listing(b"", &mut []), Err(SHORT));
+}
+
+/// The page in an out of `room` bytes: no byte behind it is written, and none at all on trouble.
+fn paged(text: &[u8], room: usize) -> Result<String, Trouble> {
+    let mut out = [7; PAGE + 1];
+    let written = page(text, &mut out[..room]);
+    assert!(out[written.unwrap_or(0)..].iter().all(|&b| b == 7));
+    written.map(|n| String::from_utf8(out[..n].to_vec()).unwrap())
+}
+
+#[test]
+fn pages() {
+    let answer = "r0                 -1000..                2000                 3001     \n\
+                  r1                 -2500..                5000                 7501     \n";
+    assert_eq!((paged(SHEET, PAGE), paged(SHEET, 146)), (Ok(answer.to_string()), Ok(answer.to_string())));
+    assert_eq!((paged(SHEET, 145), paged(SHEET, 0)), (Err(SHORT), Err(SHORT)));
+    let whole = "r15 -9223372036854775808.. 9223372036854775807 18446744073709551616     \n";
+    assert_eq!(paged(b"(in 15 -9223372036854775.808 9223372036854775.807)\n", PAGE), Ok(whole.to_string()));
+    assert_eq!((paged(b"", PAGE), paged(b"", 0), paged(b"(hold 0 0 0)\n", 0)), (Ok(String::new()), Ok(String::new()), Ok(String::new())));
+    for room in [0, PAGE] {
+        assert_eq!(paged(b"(put 0 1)\n(hold 0 2 3)\n", room), Err(Trouble { number: 21, line: 2 }));
+        assert_eq!(paged(b"(put 0 (div 1 0))\n", room), Err(Trouble { number: 20, line: 1 }));
+        assert_eq!(paged(b"(put 0 1)\nx\n", room), Err(Trouble { number: 6, line: 2 }));
+        assert_eq!(paged(b"x", room), Err(Trouble { number: 5, line: 0 }));
+    }
+}
+
+#[test]
+fn longest_page() {
+    let mut text = "(in 0 -1 1)\n(put 1 (mul 2 (le (reg 0) 0)))\n".to_string(); // then 16 registers with 16 intervals each
+    text.extend([4, 8, 16].map(|step| format!("(put 1 (add (reg 1) (mul {step} (le (reg 0) 0))))\n")));
+    text.extend((0..16).map(|r| format!("(put {r} (reg 1))\n")));
+    assert_eq!(paged(text.as_bytes(), PAGE).unwrap().lines().filter(|l| l.len() == 72).count(), 256);
+    assert_eq!(paged(text.as_bytes(), PAGE - 1), Err(SHORT));
 }
 
 #[test]

@@ -4,12 +4,10 @@ use mathlib.Core.Bool.{true, false}
 use mathlib.Core.Option.{Option, none, some}
 use Rattle.meaning.specs.SetCalls.{Returned}
 use Rattle.meaning.specs.Run as run
-use Rattle.listing.specs.declared.Listed as library
-use Rattle.listing.specs.declared.Listed.the-variants as listed
 use Rattle.answers.specs.declared.Maybe.{Maybe}
 use Rattle.answers.specs.declared.Answer.{Answer}
 use Rattle.answers.specs.declared.Verdict.{Verdict}
-use Rattle.answers.specs.declared.Listed.{Listed}
+use Rattle.answers.specs.declared.Text.{Text}
 
 -- a number and true, or 0 and false
 abbrev pub maybeFor : Option ℤ → Maybe
@@ -24,7 +22,6 @@ answerOf a = record { number = a .number; count = a .count; flag = a .flag }
 abbrev pub verdictOf : Verdict → run.Verdict
 verdictOf r = record { number = r .number; line = r .line; count = r .count }
 
--- a listing that does not fit has count 0
-abbrev pub listedFor : library.Listed → Listed
-listedFor (listed.Written n) = record { count = n; fits = true }
-listedFor listed.Short = record { count = 0; fits = false }
+-- and of a text's answer
+abbrev pub textOf : Text → run.Verdict
+textOf r = record { number = r .number; line = r .line; count = r .count }

@@ -5,7 +5,8 @@ ghost use Rattle.replies.specs.Returning.{returned};
 ghost use Rattle.sheet.specs.Answer.{judgementOf};
 ghost use Rattle.run.specs.Answer.{verdictOf as ranVerdict};
 ghost use Rattle.sheet_check.specs.Answer.{verdictOf as checkedVerdict};
-ghost use Rattle.answers.specs.Answers.{maybeFor, answerOf, verdictOf, listedFor};
+ghost use Rattle.texts.specs.Answers.{verdictOf as textVerdict};
+ghost use Rattle.answers.specs.Answers.{maybeFor, answerOf, verdictOf, textOf};
 use replies::Reply;
 use sheet::Judgement;
 
@@ -35,11 +36,12 @@ pub struct Verdict {
     pub number: u8,
 }
 
-// True and how many bytes were written; or false and 0 where the listing is longer than the bytes that were lent.
+// 0, line 0 and how many bytes were written; or the number of a refusal or finding, its line, and count 0.
 #[repr(C)]
-pub struct Listed {
+pub struct Text {
     pub count: usize,
-    pub fits: bool,
+    pub line: usize,
+    pub number: u8,
 }
 
 // A number that may be missing.
@@ -130,18 +132,24 @@ pub fn for_check(a: sheet_check::Answer) -> Verdict
     }
 }
 
-// What a listing gives.
-pub fn for_listing(a: listing::Listed) -> Listed
-    ensures { λ r. ⌜ r ≡ listedFor a ⌝ }
+// How many bytes, at which line, and for which reason: 0 is success.
+fn text_answer(bytes: usize, at: usize, reason: u8) -> Text
+    ensures { λ r. ⌜ textOf r ≡ record { number = reason; line = at; count = bytes } ⌝ }
+{
+    Text {
+        count: bytes,
+        line: at,
+        number: reason,
+    }
+}
+
+// What a part that writes text gives.
+pub fn for_text(a: texts::Answer) -> Text
+    ensures { λ r. ⌜ textOf r ≡ textVerdict a ⌝ }
 {
     match a {
-        listing::Listed::Written(bytes) => Listed {
-            count: bytes,
-            fits: true,
-        },
-        listing::Listed::Short => Listed {
-            count: 0,
-            fits: false,
-        },
+        texts::Answer::Written(bytes) => text_answer(bytes, 0, 0),
+        texts::Answer::Finding(k, l) => text_answer(0, l, k),
+        texts::Answer::Refused(k, l) => text_answer(0, l, k),
     }
 }

@@ -1,16 +1,16 @@
-// Sheets worked: the check, the run and the listing.
-use answers::Listed;
+// Sheets worked: the run, the check, the listing and the page.
+use answers::Text;
 use answers::Verdict;
 use answers::for_check;
-use answers::for_listing;
 use answers::for_run;
+use answers::for_text;
 ghost use mathlib.Core.Path.{_≡_};
-ghost use lib.ListN.{length};
 ghost use Rattle.meaning.specs.Run.{verdict, runCall, runLent};
 ghost use Rattle.meaning.specs.Check.{checkCall, checkSets, checkWork};
-ghost use Rattle.meaning.specs.Listing.{listing};
-ghost use Rattle.listing.specs.Handed.{handed, handedOver};
-ghost use Rattle.answers.specs.Answers.{verdictOf, listedFor};
+ghost use Rattle.meaning.specs.Composing.{textReturns, textLeaves};
+ghost use Rattle.meaning.specs.Listing.{listingPart};
+ghost use Rattle.meaning.specs.Page.{page};
+ghost use Rattle.answers.specs.Answers.{verdictOf, textOf};
 
 // 3 where fewer numbers are lent than there are registers, then the refusals of the text, then the lines in order: 20, 21, 22.
 #[no_mangle]
@@ -31,11 +31,20 @@ pub extern "C" fn juwenfo_check(text: &[u8], sets: &mut [i64], work: &mut [i64])
     for_check(sheet_check::check(text, sets, work))
 }
 
-// The whole listing of any text at the front of out; if it does not fit, out is as it was lent.
+// The whole listing of any text at the front of out; 4 if it does not fit, and out is as it was lent.
 #[no_mangle]
-pub extern "C" fn juwenfo_listing(text: &[u8], out: &mut [u8]) -> Listed
-    ensures { λ r. ⌜ r ≡ listedFor (handed (listing (now (text .entry))) (length (now (out .entry)))) ⌝ }
-    ensures { λ r. ⌜ now (out .exit) ≡ handedOver (listing (now (text .entry))) (now (out .entry)) ⌝ }
+pub extern "C" fn juwenfo_listing(text: &[u8], out: &mut [u8]) -> Text
+    ensures { λ r. ⌜ textOf r ≡ textReturns (listingPart (now (text .entry))) (now (out .entry)) ⌝ }
+    ensures { λ r. ⌜ now (out .exit) ≡ textLeaves (listingPart (now (text .entry))) (now (out .entry)) ⌝ }
 {
-    for_listing(listing::listing(text, out))
+    for_text(listing::listing(text, out))
+}
+
+// The page for the wheelhouse at the front of out; a sheet that does not pass is answered as the check does, then 4 if the page does not fit, and out is as it was lent.
+#[no_mangle]
+pub extern "C" fn juwenfo_page(text: &[u8], out: &mut [u8]) -> Text
+    ensures { λ r. ⌜ textOf r ≡ textReturns (page (now (text .entry))) (now (out .entry)) ⌝ }
+    ensures { λ r. ⌜ now (out .exit) ≡ textLeaves (page (now (text .entry))) (now (out .entry)) ⌝ }
+{
+    for_text(page::page(text, out))
 }

@@ -1,6 +1,6 @@
--- Laws of `All`: of a part, a place, a store, and of two properties together. Assumes nothing.
+-- Laws of `All`: of a part, a place, a store, two lists one after the other, and of two properties together. Assumes nothing.
 use lib.ListN.{length, getD, set, take, replicate}
-use mathlib.Core.List.{List, [], _∷_}
+use mathlib.Core.List.{List, [], _∷_, _++_}
 use Prim.Native.Nat.{ℕ, zero, suc, _<_}
 use native.Mathlib.Omega.{arith}
 use Rattle.meaning.specs.Lists.{All}
@@ -9,7 +9,16 @@ pub all-both : {A : Type 0} (P Q : A → Type 0) (l : List A) → All P l → Al
 all-both P Q [] p q = tt
 all-both P Q (x ∷ l) p q = ((p .0, q .0), all-both P Q l (p .1) (q .1))
 
+-- from one property to another
+pub all-map : {A : Type 0} (P Q : A → Type 0) → ((x : A) → P x → Q x) → (l : List A) → All P l → All Q l
+all-map P Q f [] p = tt
+all-map P Q f (x ∷ l) p = (f x (p .0), all-map P Q f l (p .1))
+
 module _ {A : Type 0} (P : A → Type 0) where
+  pub all-append : (a b : List A) → All P a → All P b → All P (a ++ b)
+  all-append [] b p q = q
+  all-append (x ∷ a) b p q = (p .0, all-append a b (p .1) q)
+
   pub all-take : (n : ℕ) (l : List A) → All P l → All P (take n l)
   all-take zero l p = tt
   all-take (suc n) [] p = tt

@@ -1,6 +1,7 @@
 pub mod All
 pub mod CheckSets
 pub mod Compare
+pub mod Composing
 pub mod Cut
 pub mod Decimals
 pub mod Demand2
@@ -19,8 +20,12 @@ pub mod Lists
 pub mod Machine
 pub mod Members
 pub mod Over
+pub mod PageCalls
+pub mod PageColumns
+pub mod PageReadBack
 pub mod Parts
 pub mod PlainRun
+pub mod Prefix
 pub mod Products
 pub mod Quotients
 pub mod RemainderCounts

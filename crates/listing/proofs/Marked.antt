@@ -5,23 +5,14 @@ use mathlib.Core.List.{List, [], _++_}
 use Prim.Native.Nat.{ℕ, suc, _+_, _-_, _*_, _<_}
 use native.Mathlib.Omega.{arith}
 use native.Mathlib.Numerals.{add-one}
-use lib.IntN.{ℤ, pos, negsuc, natAbs}
+use lib.IntN.{ℤ, pos}
 use lib.ListN.{getD, take, drop}
-use lib.Signed.{_≤ℤ_, _<ℤ_}
 use Rattle.meaning.specs.NumberIntervals.{intervals}
 use Rattle.meaning.specs.Sheet.{registers}
 use Rattle.meaning.specs.Check.{slotSize, countIn, setIn}
 use Rattle.meaning.specs.Listing.{registerLine}
-use Rattle.laws.proofs.Integers.{lt-in, if-yes, if-no}
+use Rattle.laws.proofs.Integers.{if-yes, if-no}
 use Rattle.listing.specs.Texts.{markedLine, markedLines}
-
-pub count-negative : (x : ℤ) → x <ℤ pos 0 → 0 ≡ countIn x
-count-negative (pos n) h = absurd (omega (arith, lt-in {a = pos n} {b = pos 0} h))
-count-negative (negsuc n) h = refl
-
-pub count-plain : (x : ℤ) → pos 0 ≤ℤ x → natAbs x ≡ countIn x
-count-plain (pos n) h = refl
-count-plain (negsuc n) h = absurd (h .le)
 
 module _ (m : List Bool) (l : List ℤ) (r : ℕ) where
   pub marked-yes : (e : List ℤ) → getD m r false ≡ true → e ≡ take (2 * countIn (getD l (slotSize * r) (pos 0))) (drop (slotSize * r + 1) l)

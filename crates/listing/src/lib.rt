@@ -2,60 +2,34 @@
 // by `wording`; here is which of them a text has.
 ghost use mathlib.Core.Path.{_≡_};
 ghost use mathlib.Core.List.{_++_};
-ghost use Prim.Native.Nat.{_+_, _-_, _*_, _<_, _≤_};
-ghost use lib.ListN.{length, getD, take, drop};
-ghost use lib.IntN.{pos};
+ghost use Prim.Native.Nat.{_-_, _<_, _≤_};
+ghost use lib.ListN.{length};
 ghost use Rattle.meaning.specs.Sheet.{registers};
-ghost use Rattle.meaning.specs.Check.{slotSize, countIn, setsNeed};
-ghost use Rattle.meaning.specs.Listing.{passLine, listing};
+ghost use Rattle.meaning.specs.Check.{setsNeed};
+ghost use Rattle.meaning.specs.Composing.{text};
+ghost use Rattle.meaning.specs.Listing.{passLine, listing, listingPart};
 ghost use Rattle.decimal.specs.Written.{Written};
+ghost use Rattle.texts.specs.Answers.{Writes};
 ghost use Rattle.sheet.specs.Judging.{IsSheet};
-ghost use Rattle.meaning.specs.Reading.{readLine};
-ghost use Rattle.listing.specs.Marks.{markLine, marksAfter, Readable};
+ghost use Rattle.listed.specs.Counted.{Counted};
+ghost use Rattle.listed.specs.Marks.{marksAfter};
+ghost use Rattle.listed.specs.Told.{Told};
 ghost use Rattle.listing.specs.Longest.{longest};
-ghost use Rattle.listing.specs.Told.{Told};
-ghost use Rattle.listing.specs.Handed.{handed, handedOver};
-ghost use Rattle.listing.specs.Texts.{markedLine, markedLines, Counted};
+ghost use Rattle.listing.specs.Texts.{markedLine, markedLines};
 use limits::REGISTERS;
 use limits::SETS;
-use limits::SLOT;
 use limits::WORK;
-use lines::LineForm;
-use lines::read_line;
-use sheet::line_end;
-use sheet_check::Answer;
+use listed::ends_of;
+use listed::mark_lines;
+use refusals::NO_ROOM;
 use sheet_check::check;
+use texts::Answer;
 use wording::pass_line;
 use wording::register_line;
 use wording::trouble_line;
 
 // No listing is longer: "pass 256" and LF, and for each register a name counted as three bytes, 16 intervals, each of two numbers of up to 20 bytes behind one space and two points, and LF.
 pub const LONGEST: usize = 11081;
-
-// Written with its length, or longer than the bytes that were lent.
-pub enum Listed {
-    Written(usize),
-    Short,
-}
-
-// How many intervals the first number of a register's slot says.
-fn count_in(x: i64) -> usize
-    ensures { λ r. ⌜ r ≡ countIn x ⌝ }
-{
-    if x < 0 { 0 } else { x as usize }
-}
-
-// The ends of register r's set.
-fn ends_of(sets: &[i64], r: usize) -> &[i64]
-    requires { ⌜ (length (now sets) ≡ setsNeed) × (r < registers) × Counted (now sets) ⌝ }
-    ensures { λ e. ⌜ now e ≡ take (2 * countIn (getD (now (sets .entry)) (slotSize * r) (pos 0))) (drop (slotSize * r + 1) (now (sets .entry))) ⌝ }
-{
-    let at = SLOT * r;
-    let n = count_in(sets[at]);
-    let from = at + 1;
-    let to = from + 2 * n;
-    &sets[from..to]
-}
 
 // The line of register r, if it is marked.
 fn marked_line(out: &mut [u8], marks: &[bool], sets: &[i64], r: usize) -> usize
@@ -83,38 +57,6 @@ fn marked_lines(out: &mut [u8], marks: &[bool], sets: &[i64], r: usize) -> usize
     at + marked_lines(&mut out[at..], marks, sets, r + 1)
 }
 
-// Marks the register of a line's `in` or `put`.
-fn mark(marks: &mut [bool; REGISTERS], line: &[u8])
-    requires { ⌜ Readable (now line) ⌝ }
-    ensures { λ _. ⌜ now (marks .exit) ≡ markLine (readLine (now (line .entry))) (now (marks .entry)) ⌝ }
-{
-    match read_line(line) {
-        LineForm::In(r, _, _) => {
-            marks[r] = true;
-        }
-        LineForm::Put(r, _) => {
-            marks[r] = true;
-        }
-        LineForm::Hold(_, _, _) => {}
-        LineForm::Refused(_) => {}
-    }
-}
-
-// Marks the registers that the n lines of a sheet write.
-fn mark_lines(marks: &mut [bool; REGISTERS], text: &[u8], n: usize)
-    requires { ⌜ IsSheet (now text) n × (now marks ≡ marksAfter (now text) 0) ⌝ }
-    ensures { λ _. ⌜ now (marks .exit) ≡ marksAfter (now (text .entry)) n ⌝ }
-{
-    let mut at = 0;
-    let mut i = 0;
-    while i < n {
-        let e = line_end(text, at);
-        mark(marks, &text[at..e]);
-        at = e + 1;
-        i += 1;
-    }
-}
-
 // The listing of a sheet of n lines that the check passes with these sets.
 fn passed(out: &mut [u8], text: &[u8], sets: &[i64], n: usize) -> usize
     requires { ⌜ IsSheet (now text) n × (length (now sets) ≡ setsNeed) × Counted (now sets) ⌝ }
@@ -128,26 +70,25 @@ fn passed(out: &mut [u8], text: &[u8], sets: &[i64], n: usize) -> usize
 }
 
 // The listing by what the check answered.
-fn told(out: &mut [u8], text: &[u8], sets: &[i64], a: Answer) -> usize
+fn told(out: &mut [u8], text: &[u8], sets: &[i64], a: sheet_check::Answer) -> usize
     requires { ⌜ Told (now text) (now sets) a × (longest ≤ length (now out)) ⌝ }
     ensures { λ r. ⌜ Written r (listing (now (text .entry))) (now (out .exit)) (now (out .entry)) ⌝ }
 {
     match a {
-        Answer::Pass(n) => passed(out, text, sets, n),
-        Answer::Finding(k, l) => trouble_line(out, k, l),
-        Answer::Refused(k, l) => trouble_line(out, k, l),
+        sheet_check::Answer::Pass(n) => passed(out, text, sets, n),
+        sheet_check::Answer::Finding(k, l) => trouble_line(out, k, l),
+        sheet_check::Answer::Refused(k, l) => trouble_line(out, k, l),
     }
 }
 
 // The bytes of `from` at the front of out, if they fit.
-fn hand_over(out: &mut [u8], from: &[u8]) -> Listed
-    ensures { λ r. ⌜ r ≡ handed (now (from .entry)) (length (now (out .entry))) ⌝ }
-    ensures { λ r. ⌜ now (out .exit) ≡ handedOver (now (from .entry)) (now (out .entry)) ⌝ }
+fn hand_over(out: &mut [u8], from: &[u8]) -> Answer
+    ensures { λ r. ⌜ Writes (text (now (from .entry))) (now (out .entry)) r (now (out .exit)) ⌝ }
 {
     if out.len() < from.len() {
-        return Listed::Short;
+        return Answer::Refused(NO_ROOM, 0);
     }
-    Listed::Written(decimal::copy_bytes(out, from))
+    Answer::Written(decimal::copy_bytes(out, from))
 }
 
 // The listing of a text, written into a buffer that is long enough for any.
@@ -161,10 +102,9 @@ fn list_into(buffer: &mut [u8], text: &[u8]) -> usize
     told(buffer, text, &sets, a)
 }
 
-// The whole listing of any text at the front of out; if it does not fit, out is as it was lent.
-pub fn listing(text: &[u8], out: &mut [u8]) -> Listed
-    ensures { λ r. ⌜ r ≡ handed (listing (now (text .entry))) (length (now (out .entry))) ⌝ }
-    ensures { λ r. ⌜ now (out .exit) ≡ handedOver (listing (now (text .entry))) (now (out .entry)) ⌝ }
+// The whole listing of any text at the front of out; if it does not fit, 4 with line 0, and out is as it was lent.
+pub fn listing(text: &[u8], out: &mut [u8]) -> Answer
+    ensures { λ r. ⌜ Writes (listingPart (now (text .entry))) (now (out .entry)) r (now (out .exit)) ⌝ }
 {
     let mut buffer = [0u8; LONGEST];
     let n = list_into(&mut buffer, text);

@@ -1,4 +1,5 @@
 pub mod Marked
+pub mod PageSamples
 pub mod Readings
 pub mod Samples
 pub mod SheetReadings

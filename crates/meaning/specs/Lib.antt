@@ -12,7 +12,9 @@ pub mod Reading
 pub mod Text
 pub mod Run
 pub mod Check
+pub mod Composing
 pub mod Listing
+pub mod Page
 pub mod Demand2
 pub mod Demand2Calls
 pub mod Rooms
@@ -23,7 +25,9 @@ pub mod ReadLaws
 pub mod CheckSets
 pub mod Verdicts
 pub mod PlainRun
+pub mod PageReadBack
 pub mod Marked
 pub mod Readings
 pub mod SheetReadings
 pub mod Samples
+pub mod PageSamples

@@ -13,6 +13,7 @@ use Rattle.meaning.specs.NumberIntervals.{Set}
 use Rattle.meaning.specs.Sheet.{registers, put, hold, Line, input, act}
 use Rattle.meaning.specs.Text.{Read, sheet, noSheet, read}
 use Rattle.meaning.specs.Check.{Bands, at, check, intervalLimit}
+use Rattle.meaning.specs.Composing.{Composed, text}
 
 -- ---- numbers in decimal
 
@@ -75,3 +76,7 @@ readText (noSheet k l) = troubleLine k l
 
 unfoldable pub listing : List ℕ → List ℕ
 listing t = readText (read t)
+
+-- as a part that writes text (02, (i)): every text has a listing, so no number but 0 and 4 is returned
+abbrev pub listingPart : List ℕ → Composed
+listingPart t = text (listing t)

@@ -1,7 +1,7 @@
 // Replays stored sheets, and writes a line for each call: how many sheets, and whether all agree. The file data/README.md says how they were made.
 mod case;
 mod checks;
-mod listings;
+mod parts;
 mod reads;
 mod runs;
 
@@ -9,41 +9,26 @@ use case::Case;
 use replay::Step;
 use replay::Tally;
 
+// How many calls give no text; the others are the parts that write one.
+const PLAIN: u8 = 4;
+
 // More turns than the file has sheets: a proved loop has to end, and nothing says that a file does.
 const TURNS: usize = 1000000;
 
 // One call on one sheet. The slices hold the whole case, and `c` says how much of them is in use.
-fn agrees(
-    part: u8,
-    c: Case,
-    text: &[u8],
-    lent: &mut [i64],
-    left: &[i64],
-    sets: &[i64],
-    listed: &[u8],
-) -> bool {
-    match part {
+fn agrees(call: u8, c: Case, text: &[u8], lent: &mut [i64], left: &[i64], sets: &[i64]) -> bool {
+    match call {
         0 => reads::judged(c, text),
         1 => reads::found(c, text),
         2 => runs::agrees(c, text, lent, left),
-        3 => checks::agrees(c, text, sets),
-        _ => listings::agrees(text, listed),
+        _ => checks::agrees(c, text, sets),
     }
 }
 
 // Takes the parts of a case that are in use.
-fn cut(
-    part: u8,
-    c: Case,
-    text: &[u8],
-    lent: &mut [i64],
-    left: &[i64],
-    sets: &[i64],
-    listed: &[u8],
-) -> bool {
+fn cut(call: u8, c: Case, text: &[u8], lent: &mut [i64], left: &[i64], sets: &[i64]) -> bool {
     let t = c.text;
     let n = c.lent;
-    let k = c.listed;
     if t > text.len() {
         return false;
     }
@@ -53,47 +38,61 @@ fn cut(
     if n > left.len() {
         return false;
     }
+    agrees(call, c, &text[..t], &mut lent[..n], &left[..n], sets)
+}
+
+// One part that writes text, with the bytes of a case that are in use.
+fn writes(call: u8, c: Case, text: &[u8], listed: &[u8], paged: &[u8]) -> bool {
+    let t = c.text;
+    let k = c.listed;
+    let m = c.page;
+    if t > text.len() {
+        return false;
+    }
     if k > listed.len() {
         return false;
     }
-    agrees(
-        part,
-        c,
-        &text[..t],
-        &mut lent[..n],
-        &left[..n],
-        sets,
-        &listed[..k],
-    )
+    if m > paged.len() {
+        return false;
+    }
+    if call == PLAIN {
+        parts::listed(&text[..t], &listed[..k])
+    } else {
+        parts::paged(c.paged, &text[..t], &paged[..m])
+    }
 }
 
 // Reads a case into slices longer than any case needs.
-fn replay_case(part: u8, fd: i32, c: Case) -> bool {
+fn replay_case(call: u8, fd: i32, c: Case) -> bool {
     let mut text = io::large_buffer();
     let mut lent = [0i64; 64];
     let mut left = [0i64; 64];
     let mut sets = replay::numbers();
     let mut listed = io::buffer();
+    let mut paged = io::large_buffer();
     let is_text = replay::read_bytes(fd, &mut text, c.text);
     let is_lent = replay::read_front(fd, &mut lent, c.lent);
     let is_left = replay::read_front(fd, &mut left, c.lent);
     let is_sets = case::read_sets(fd, c, &mut sets);
     let is_listed = replay::read_bytes(fd, &mut listed, c.listed);
-    is_text
-        && is_lent
-        && is_left
-        && is_sets
-        && is_listed
-        && cut(part, c, &text, &mut lent, &left, &sets, &listed)
+    let is_paged = replay::read_bytes(fd, &mut paged, c.page);
+    if !(is_text && is_lent && is_left && is_sets && is_listed && is_paged) {
+        return false;
+    }
+    if call < PLAIN {
+        cut(call, c, &text, &mut lent, &left, &sets)
+    } else {
+        writes(call, c, &text, &listed, &paged)
+    }
 }
 
 // One stored case, if there is one more.
-fn next_case(part: u8, fd: i32) -> Step {
-    let mut b = [0u8; 32];
-    if io::read_full(fd, &mut b) < 32 {
+fn next_case(call: u8, fd: i32) -> Step {
+    let mut b = [0u8; 36];
+    if io::read_full(fd, &mut b) < 36 {
         return Step::End;
     }
-    if replay_case(part, fd, case::case_in(&b)) {
+    if replay_case(call, fd, case::case_in(&b)) {
         Step::Agrees
     } else {
         Step::Differs
@@ -101,34 +100,35 @@ fn next_case(part: u8, fd: i32) -> Step {
 }
 
 // All cases of a file.
-fn replay_cases(part: u8, fd: i32) -> Tally {
+fn replay_cases(call: u8, fd: i32) -> Tally {
     let mut t = Tally::new();
     let mut turns = TURNS;
     while turns > 0 && t.open {
-        t = t.counted(next_case(part, fd));
+        t = t.counted(next_case(call, fd));
         turns -= 1;
     }
     t
 }
 
 // Replays all sheets through one call, and reports.
-fn replay_part(part: u8, name: &[u8]) {
+fn replay_call(call: u8, name: &[u8]) {
     let file = b"sheets";
     let fd = os::open_read(file);
     if fd < 0 {
         os::fail(file);
         return;
     }
-    let t = replay_cases(part, fd);
+    let t = replay_cases(call, fd);
     libc::close(fd);
     replay::report(name, t);
 }
 
 // Each file of cases, and a line of report for each.
 fn main() {
-    replay_part(0, b"judge");
-    replay_part(1, b"line");
-    replay_part(2, b"run");
-    replay_part(3, b"check");
-    replay_part(4, b"listing");
+    replay_call(0, b"judge");
+    replay_call(1, b"line");
+    replay_call(2, b"run");
+    replay_call(3, b"check");
+    replay_call(4, b"listing");
+    replay_call(5, b"page");
 }

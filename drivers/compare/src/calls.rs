@@ -24,6 +24,15 @@ pub struct Verdict {
     pub number: u8,
 }
 
+#[cfg(pages)]
+#[repr(C)]
+#[derive(Clone, Copy, Debug, PartialEq, Eq)]
+pub struct Text {
+    pub count: usize,
+    pub line: usize,
+    pub number: u8,
+}
+
 pub type OneWork = unsafe extern "C" fn(*const i64, usize, bool, *mut i64, usize, *mut i64, usize) -> Answer;
 pub type TwoWork = unsafe extern "C" fn(*const i64, usize, bool, *const i64, usize, *mut i64, usize, *mut i64, usize) -> Answer;
 pub type One = unsafe extern "C" fn(*const i64, usize, *mut i64, usize) -> Answer;
@@ -48,6 +57,9 @@ extern "C" {
 
     #[cfg(sheets)]
     pub fn juwenfo_check(text: *const u8, n: usize, sets: *mut i64, sn: usize, work: *mut i64, wn: usize) -> Verdict;
+
+    #[cfg(pages)]
+    pub fn juwenfo_page(text: *const u8, n: usize, out: *mut u8, on: usize) -> Text;
 
     pub fn juwenfo_number_neg(x: i64) -> i64;
     pub fn juwenfo_number_abs(x: i64) -> i64;

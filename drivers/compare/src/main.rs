@@ -4,7 +4,7 @@
 //!   compare edges [OP,OP]                 every pair of intervals with their ends at the edges
 //!   compare points CASES SEED             the point operations
 //!   compare bench [ROUNDS [OP,OP]]        times of both in turns, and the ratios
-//!   compare sheets FILE..                 times of the check of these sheets and of the heaviest ones (where the archive has the check)
+//!   compare sheets FILE..                 times of the check and the page of these sheets and of the heaviest ones (where the archive has them)
 //!
 //! Outside the differences that document 01 names, its rules (reading.rs) and the original must agree; inside them the archive is held to 01's rules.
 mod bench;

@@ -1,4 +1,4 @@
-//! Times of the check of whole sheets: the files that are named, and the heaviest ones.
+//! Times of the check and of the page of whole sheets: the files that are named, and the heaviest ones.
 use crate::calls::{juwenfo_check, Verdict};
 use std::time::Instant;
 
@@ -10,12 +10,24 @@ fn check(text: &[u8], sets: &mut [i64], work: &mut [i64]) -> Verdict {
     unsafe { juwenfo_check(text.as_ptr(), text.len(), sets.as_mut_ptr(), sets.len(), work.as_mut_ptr(), work.len()) }
 }
 
-/// Registers 2 and 3 with 16 intervals each, neither with 0, and then `line` until there are 256 lines.
-fn filled(line: &str, width: &str) -> String {
+#[cfg(pages)]
+fn page(text: &[u8], out: &mut [u8]) -> usize {
+    // Each pointer is good for the length beside it, and the slices do not overlap.
+    unsafe { crate::calls::juwenfo_page(text.as_ptr(), text.len(), out.as_mut_ptr(), out.len()).count }
+}
+
+/// Registers 2 and 3 with 16 intervals each, neither with 0.
+fn two_crowded(width: &str) -> String {
     let mut s = String::from("(in 0 0 1)\n");
     s += &format!("(in 1 0 {width})\n");
     s += "(put 2 (ne (reg 0) 0))\n(put 2 (add (reg 2) (mul (reg 2) 2)))\n(put 2 (add (reg 2) (mul (reg 2) 4)))\n";
     s += "(put 3 (add (mul (reg 2) 2) (add (reg 1) 2)))\n(put 2 (add (mul (reg 2) 2) (add (reg 1) 33)))\n";
+    s
+}
+
+/// The same, and then `line` until there are 256 lines.
+fn filled(line: &str, width: &str) -> String {
+    let mut s = two_crowded(width);
     while s.lines().count() < 256 {
         s += line;
         s.push('\n');
@@ -40,23 +52,47 @@ fn heaviest() -> Vec<(String, String)> {
     v.push(("256 lines, four rem side by side, width 0.3".into(), filled(&format!("(put 4 (and (and {pair} {pair}) (and {pair} {pair})))"), "0.3")));
     v.push(("256 lines, rem and div of both signs".into(), filled("(put 4 (and (rem (sub (reg 3) 17) (reg 3)) (div (sub (reg 3) 17) (neg (reg 3)))))", "0.3")));
     v.push(("256 lines of literals".into(), "(put 15 (add 9223372036854775.807 (mul -9223372036854775.808 (sub 9223372036854775.807 -9223372036854775.80))))\n".repeat(256)));
+    v.push(("16 intervals in each of 14 registers".into(), two_crowded("0.3") + &(4..16).map(|r| format!("(put {r} (reg 2))\n")).collect::<String>()));
     v
+}
+
+/// The least of 15 rounds, in microseconds.
+fn least(mut call: impl FnMut()) -> f64 {
+    call();
+    let rounds = (0..15).map(|_| {
+        let t = Instant::now();
+        call();
+        t.elapsed().as_nanos() as f64 / 1000.0
+    });
+    rounds.fold(f64::MAX, f64::min)
+}
+
+#[cfg(pages)]
+fn page_columns(text: &str) -> String {
+    let mut out = vec![0u8; 73 * 16 * 16];
+    let took = least(|| {
+        page(text.as_bytes(), &mut out);
+    });
+    format!(" {took:.0} | {} |", page(text.as_bytes(), &mut out))
+}
+
+#[cfg(not(pages))]
+fn page_columns(_: &str) -> String {
+    String::new()
 }
 
 fn time(name: &str, text: &str) {
     let (mut sets, mut work) = (vec![0i64; SETS], vec![0i64; WORK]);
-    let mut best = f64::MAX;
-    let mut last = check(text.as_bytes(), &mut sets, &mut work);
-    for _ in 0..15 {
-        let t = Instant::now();
-        last = check(text.as_bytes(), &mut sets, &mut work);
-        best = best.min(t.elapsed().as_nanos() as f64 / 1000.0);
-    }
-    println!("| {name} | {} | {} | {} | {best:.0} |", text.lines().count(), last.number, last.line);
+    let took = least(|| {
+        check(text.as_bytes(), &mut sets, &mut work);
+    });
+    let v = check(text.as_bytes(), &mut sets, &mut work);
+    println!("| {name} | {} | {} | {} | {took:.0} |{}", text.lines().count(), v.number, v.line, page_columns(text));
 }
 
 pub fn all(files: &[String]) {
-    println!("| Sheet | lines | number | line | check, µs |\n|---|---|---|---|---|");
+    let (head, rule) = if cfg!(pages) { (" page, µs | bytes |", "---|---|") } else { ("", "") };
+    println!("| Sheet | lines | number | line | check, µs |{head}\n|---|---|---|---|---|{rule}");
     for f in files {
         let text = std::fs::read_to_string(f).unwrap_or_else(|e| panic!("{f}: {e}"));
         let name = f.rsplit('/').next().unwrap();

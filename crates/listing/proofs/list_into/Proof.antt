@@ -2,7 +2,7 @@
 use Rattle.meaning.specs.Check.{setsNeed, workNeed}
 use lib.ListN.{replicate, length-replicate}
 use lib.IntN.{pos}
-use Rattle.listing.proofs.Checked.{told-by}
+use Rattle.listed.proofs.Checked.{told-by}
 use borrow.Author.Needs.{needs}
 use Rattle.listing.proofs.list_into.Statement.{statement}
 use Rattle.listing.proofs.list_into.Tie as tie

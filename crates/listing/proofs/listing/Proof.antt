@@ -1,10 +1,9 @@
 -- The buffer holds the listing at its front, and just that is handed over. Assumes nothing.
 use mathlib.Core.Path.{sym, ap, _∙_}
-use mathlib.Core.List.{List}
-use Prim.Native.Nat.{ℕ}
 use lib.ListN.{length}
 use Rattle.decimal.proofs.Chain.{written-front}
-use Rattle.listing.specs.Handed.{handed, handedOver}
+use Rattle.meaning.specs.Composing.{text}
+use Rattle.texts.proofs.Answering.{writes-as}
 use borrow.Author.Needs.{needs}
 use Rattle.listing.proofs.listing.Statement.{statement}
 use Rattle.listing.proofs.listing.Tie as tie
@@ -31,10 +30,8 @@ same-length c = search needs
 
 returns : tie.Need-returns
 returns c =
-    let s = c .before .before .before .before .before .before .before .before .before .before in
     let e = written-front (c .before .before .before .before .before .before .list-into .ensures) in
-    let h = c .before .before .hand-over .ensures in
-    (h .0 ∙ ap (λ (x : List ℕ). handed x (length (s .args .out .now))) e, h .1 ∙ ap (λ (x : List ℕ). handedOver x (s .args .out .now)) e)
+    writes-as (ap text e) (c .before .before .hand-over .ensures)
 
 pub listing-spec : {M : Type 1} → statement M
 listing-spec =

@@ -8,8 +8,8 @@ use Rattle.meaning.specs.Sheet.{registers}
 use Rattle.meaning.specs.Listing.{passLine}
 use Rattle.decimal.proofs.Chain.{written-as, written-next, room-as, room-next, first-room}
 use Rattle.listing.specs.Texts.{markedLines}
-use Rattle.listing.specs.Marks.{marksAfter}
-use Rattle.listing.proofs.Marks.{length-marks}
+use Rattle.listed.specs.Marks.{marksAfter}
+use Rattle.listed.proofs.Marks.{length-marks}
 use borrow.Author.Needs.{needs}
 use Rattle.listing.proofs.passed.Statement.{statement}
 use Rattle.listing.proofs.passed.Tie as tie

@@ -2,7 +2,8 @@
 use native.Mathlib.Omega.{arith}
 use Rattle.decimal.proofs.Chain.{written-as, room-as}
 use Rattle.listing.proofs.Longest.{listing-most}
-use Rattle.listing.proofs.Pass.{told-pass, told-finding, told-refused}
+use Rattle.listed.proofs.Passed.{told-pass}
+use Rattle.listing.proofs.Pass.{pass-text, told-finding, told-refused}
 use borrow.Author.Needs.{needs}
 use Rattle.listing.proofs.told.Statement.{statement}
 use Rattle.listing.proofs.told.Tie as tie
@@ -14,7 +15,7 @@ passed-requires : tie.Need-passed-requires
 passed-requires c κs =
     let s = c .before .before .before .before .before .before in
     let k = told-pass (s .pre .0) (c .before .before .a .given .1) in
-    ((k .sheet, k .long, k .few), room-as _ (k .text) (omega (arith, listing-most (s .args .text .now), s .pre .1)))
+    ((k .sheet, k .long, k .few), room-as _ (pass-text k) (omega (arith, listing-most (s .args .text .now), s .pre .1)))
 
 enum-known-a-2 : tie.Need-enum-known-a-2
 enum-known-a-2 c = search needs
@@ -38,7 +39,7 @@ same-length c = search needs
 returns : tie.Need-returns
 returns c =
     let s = c .before .before .before .before .before .before .before .before .before in
-    written-as (told-pass (s .pre .0) (c .before .before .before .before .before .a .given .1) .text) (c .before .before .passed .ensures)
+    written-as (pass-text (told-pass (s .pre .0) (c .before .before .before .before .before .a .given .1))) (c .before .before .passed .ensures)
 
 same-length-2 : tie.Need-same-length-2
 same-length-2 c = search needs

@@ -14,9 +14,6 @@ returns-2 c = search needs
 returns-3 : tie.Need-returns-3
 returns-3 c = search needs
 
-returns-4 : tie.Need-returns-4
-returns-4 c = search needs
-
 slice-aggregate-agrees : tie.Need-slice-aggregate-agrees
 slice-aggregate-agrees c = simp length-take (omega arith)
 
@@ -29,17 +26,14 @@ slice-aggregate-agrees-2 c = simp length-take (omega arith)
 slice-aggregate-agrees-3 : tie.Need-slice-aggregate-agrees-3
 slice-aggregate-agrees-3 c = simp length-take (omega arith)
 
-slice-aggregate-agrees-4 : tie.Need-slice-aggregate-agrees-4
-slice-aggregate-agrees-4 c = simp length-take (omega arith)
-
 agrees-requires : tie.Need-agrees-requires
 agrees-requires c κs = search needs
 
 same-length : tie.Need-same-length
 same-length c = search needs
 
-returns-5 : tie.Need-returns-5
-returns-5 c = search needs
+returns-4 : tie.Need-returns-4
+returns-4 c = search needs
 
 pub cut-spec : {M : Type 1} → statement M
 cut-spec =
@@ -48,12 +42,10 @@ cut-spec =
     returns
     returns-2
     returns-3
-    returns-4
     slice-aggregate-agrees
     slice-relend-prefix-agrees
     slice-aggregate-agrees-2
     slice-aggregate-agrees-3
-    slice-aggregate-agrees-4
     agrees-requires
     same-length
-    returns-5)
+    returns-4)

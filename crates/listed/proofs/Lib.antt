@@ -1,0 +1,4 @@
+mod Counts
+pub mod Marks
+pub mod Checked
+pub mod Passed
