@@ -6,19 +6,19 @@
  * and HI.
  *
  * A flag stands beside the set that a set call answers. div and rem set it where the left set has a member and the right set holds 0; they, neg, abs, add,
- * sub and mul keep it set where it is lent set with the left set. No call asks for the right set's flag, and not, and, or, le, lt, ne, union and intersect
- * answer false. So one flag does not speak for the calls before it: who chains calls keeps the OR of the flags of all answers on the way.
+ * sub and mul keep it set where it is lent set with the left set. No call asks for the right set's flag, and not, and, or, le, lt, ne, union, intersect
+ * and within answer false. So one flag does not speak for the calls before it: who chains calls keeps the OR of the flags of all answers on the way.
  *
  * Every call is total: it has no precondition on the numbers, bytes and lengths that it is given, and refuses by number instead.
  * What the caller sees to, for every call: each pointer is good for the length that follows it (NULL only with length 0), and what is behind a
  * pointer without const overlaps nothing else that is lent to the same call and is used by nobody else until it returns. docs/CALLERS.md says more.
  *
- * Numbers of refusals (1 to 9) and findings (20 to 22):
+ * Numbers of refusals (1 to 10) and findings (20 to 22):
  *    1  a set of odd length, or not normal                         6  a line outside the grammar, or LO past HI
  *    2  a set of more than 32 numbers                              7  a literal beyond MIN..MAX
  *    3  a lent slice shorter than its call needs                   8  an `in` after another kind, or a second one for a register
  *    4  an answer or a text longer than out                        9  a form's set has over 16 intervals (check)
- *    5  over 256 lines, a line over 120 bytes, last LF missing
+ *    5  over 256 lines, a line over 120 bytes, last LF missing    10  an empty set (nearest, within)
  *   20  a divisor may be 0 (check), or is 0 (run)     21  a hold is broken     22  a lent number outside its `in` (run)
  */
 #ifndef JUWENFO_H
@@ -27,7 +27,7 @@
 #include <stddef.h>
 #include <stdint.h>
 
-#define JUWENFO_VERSION "0.2.0" /* the one place of it: the callers in Rust and Python take it from here */
+#define JUWENFO_VERSION "0.3.0" /* the one place of it: the callers in Rust and Python take it from here */
 
 /* An answer that is dropped may be a refusal: compilers that know how warn of it. */
 #if (defined __cplusplus && __cplusplus >= 201703L) || (defined __STDC_VERSION__ && __STDC_VERSION__ >= 202311L)
@@ -117,6 +117,25 @@ JUWENFO_ANSWERS juwenfo_answer juwenfo_set_lt(const int64_t *left, size_t left_l
 JUWENFO_ANSWERS juwenfo_answer juwenfo_set_ne(const int64_t *left, size_t left_len, const int64_t *right, size_t right_len, int64_t *out, size_t out_len);
 JUWENFO_ANSWERS juwenfo_answer juwenfo_set_union(const int64_t *left, size_t left_len, const int64_t *right, size_t right_len, int64_t *out, size_t out_len);     /* just the members of either set */
 JUWENFO_ANSWERS juwenfo_answer juwenfo_set_intersect(const int64_t *left, size_t left_len, const int64_t *right, size_t right_len, int64_t *out, size_t out_len); /* just the members of both sets */
+
+/* ---- the members of a set around a number
+ *
+ * Distances are exact, from 0 to 2^64 - 1: none wraps. Judged in this order: 2, 1, 10 (the set is empty), and for within then 4 (out is too short).
+ * After a refusal every slice is as lent. After success the first `count` numbers of within's out hold the answer, and the rest is as lent.
+ * The set is never written. No flag is asked for, and no work is needed, so never 3.
+ */
+
+/* number 0: the member. Else the refusal's number, and member 0. */
+typedef struct {
+    int64_t member;
+    uint8_t number;
+} juwenfo_member;
+
+/* The member closest to x; of two at the same distance the lower one. */
+JUWENFO_ANSWERS juwenfo_member juwenfo_set_nearest(const int64_t *set, size_t set_len, int64_t x);
+
+/* Just the members at most `distance` away from x; there may be none: count 0. The flag of the answer is false. An out of set_len numbers is never too short. */
+JUWENFO_ANSWERS juwenfo_answer juwenfo_set_within(const int64_t *set, size_t set_len, int64_t x, uint64_t distance, int64_t *out, size_t out_len);
 
 /* ---- sheets */
 

@@ -7,6 +7,8 @@ An object has `call` and what is given to it, and what it is to answer; texts ar
     check    text; number, line, and on a pass sets: the ends of each register
     run      text, lent; number, line, left: the numbers afterwards
     page     text; number, line, written
+    nearest  set, x; number, member
+    within   set, x, distance, out: how many numbers are lent, all 7; number, count, left: out afterwards
 
 It says for each call how many agree and shows the first that differs. A call that is not listed here is counted apart.
 """
@@ -19,35 +21,54 @@ sys.path.insert(0, os.path.join(os.path.dirname(os.path.dirname(os.path.abspath(
 import juwenfo
 
 
-def listing(case, text):
-    return {"written": juwenfo.listing(text).decode("latin-1")}
+def text(case):
+    return case["text"].encode("latin-1")
 
 
-def check(case, text):
+def listing(case):
+    return {"written": juwenfo.listing(text(case)).decode("latin-1")}
+
+
+def check(case):
     try:
-        sets = juwenfo.check(text)
+        sets = juwenfo.check(text(case))
     except juwenfo.Trouble as t:
         return {"number": t.number, "line": t.line}
     return {"number": 0, "line": 0, "sets": [[x for interval in s for x in interval] for s in sets]}
 
 
-def run(case, text):
+def run(case):
     try:
-        return {"number": 0, "line": 0, "left": juwenfo.run(text, case["lent"])}
+        return {"number": 0, "line": 0, "left": juwenfo.run(text(case), case["lent"])}
     except juwenfo.Trouble as t:
         return {"number": t.number, "line": t.line, "left": list(t.registers) or case["lent"]}
 
 
-def page(case, text):
+def page(case):
     try:
-        return {"number": 0, "line": 0, "written": juwenfo.page(text).decode("latin-1")}
+        return {"number": 0, "line": 0, "written": juwenfo.page(text(case)).decode("latin-1")}
     except juwenfo.Trouble as t:
         return {"number": t.number, "line": t.line, "written": ""}
 
 
+# The two calls below are the C functions themselves: a slice that is no list of intervals, and an out of any length, have no place in the Python calls.
+
+def nearest(case):
+    given = juwenfo._slice(case["set"])
+    a = juwenfo._nearest(given, len(given), case["x"])
+    return {"number": a.number, "member": a.member}
+
+
+def within(case):
+    given, out = juwenfo._slice(case["set"]), juwenfo._slice([7] * case["out"])
+    a = juwenfo._within(given, len(given), case["x"], case["distance"], out, len(out))
+    got = {"number": a.number, "count": a.count, "left": out[:]}
+    return dict(got, flag=True) if a.flag else got  # no case has a flag, which is false
+
+
 if len(sys.argv) < 2:
     sys.exit("usage: cases.py FILE..")
-CALLS = {"listing": listing, "check": check, "run": run, "page": page}
+CALLS = {"listing": listing, "check": check, "run": run, "page": page, "nearest": nearest, "within": within}
 agree, differ, unknown = collections.Counter(), collections.Counter(), collections.Counter()
 for name in sys.argv[1:]:
     for line in open(name):
@@ -56,8 +77,8 @@ for name in sys.argv[1:]:
         if call not in CALLS:
             unknown[call] += 1
             continue
-        got = CALLS[call](case, case["text"].encode("latin-1"))
-        want = {k: case[k] for k in ("written", "number", "line", "sets", "left") if k in case}
+        got = CALLS[call](case)
+        want = {k: case[k] for k in ("written", "number", "line", "sets", "left", "member", "count") if k in case}
         if got == want:
             agree[call] += 1
             continue

@@ -467,6 +467,25 @@ def page(text):
     if v[0] != 'pass': return v[1], v[2], b''
     return 0, 0, ''.join(page_line(r, s, e) for r in shown(judge(text)) for s, e in sorted(v[2][r])).encode()
 
+# ---------------------------------------------------------------- closest setpoint, document 02 (ii)
+def judge_setpoint(ends):
+    return judge_set(ends) or (10 if ends == [] else 0)
+
+def nearest(ends, x):
+    """(refusal, member); the closest member is x itself or an end"""
+    r = judge_setpoint(ends)
+    if r: return r, 0
+    members = [x] * member(x, pairs(ends)) + ends
+    return 0, min(members, key=lambda m: (abs(m - x), m))
+
+def within(ends, x, distance, out):
+    """The call on lent slices: (refusal, count, flag, out after)."""
+    r = judge_setpoint(ends)
+    if r: return r, 0, False, out
+    got = flat(s_intersect(pairs(ends), [(x - distance, x + distance)])[0])
+    if len(got) > len(out): return 4, 0, False, out
+    return 0, len(got), False, got + out[len(got):]
+
 if __name__ == '__main__':
     own = b'(in 0 -1 2)\n(put 1 (mul (reg 0) 2.5))\n(hold 1 -3 5)\n'
     assert listing(own) == b'pass 3\nr0 -1000..2000\nr1 -2500..5000\n'
@@ -485,4 +504,8 @@ if __name__ == '__main__':
     assert v('rem', [(7, 9)], [(4, 4)])[0] == [(0, 1), (3, 3)]
     assert v('abs', [(-5, 3)])[0] == [(0, 5)]
     assert v('lt', [(3, 3)], [(3, 3)])[0] == [(0, 0)]
+    assert nearest([1, 1, 5, 5], 3) == (0, 1) and nearest([1, 1, 5, 5], 4) == (0, 5) and nearest([], 3) == (10, 0)
+    assert nearest([MIN, MIN, MAX, MAX], 0) == (0, MAX) and nearest([MIN, MIN, MAX, MAX], -1) == (0, MIN)
+    assert within([1, 1, 5, 5], 3, 1, [7]) == (0, 0, False, [7]) and within([1, 9], 3, 1, [7]) == (4, 0, False, [7])
+    assert within([MIN, MIN, 5, MAX], MAX, 2**64 - 1, [7] * 5) == (0, 4, False, [MIN, MIN, 5, MAX, 7])
     print('marked values agree')

@@ -1,5 +1,6 @@
 #!/usr/bin/env python3
-"""Writes crates/vectors/data: cases of the set calls and of the point operations, with the answers of the original Rust.
+"""Writes crates/vectors/data: cases of the set calls and of the point operations, with the answers of the original Rust; and of nearest and within, which it
+does not have, with those of reading.py.
 
     vectors.py ORACLE DATA
 
@@ -151,6 +152,66 @@ def lent_cases(op, r):
     return [(l, f, x, w if op in rules.K else 0, o) for l, f, x, w, o in got]
 
 
+# ---- the closest setpoint: a set, and a number to ask about
+
+FAR = 2**64 - 1
+MARKED_SETS = [[(1, 1), (5, 5)], [(MIN, MIN)], [(MAX, MAX)], [(MIN, MAX)], [(MIN, MIN), (MAX, MAX)], [(MIN, MIN), (MAX - 1, MAX)], [(MIN, MIN + 1), (MAX, MAX)],
+               [(MIN + 1, MIN + 1), (MAX, MAX)], [(MIN, -2), (0, MAX)], [(MIN, -1), (1, MAX)], [(-1, 1)], [(0, 0)]]
+
+
+def asked(a, r):
+    """Numbers in the set, at its ends, beside them, in the middle of its gaps, beyond all, and any."""
+    got = [MIN, MAX, -1, 0, number(r)]
+    for s, e in a: got += [s - 1, s, (s + e) // 2, e, e + 1]
+    for (_, e), (s, _) in zip(a, a[1:]): got += [(e + s) // 2 + d for d in (-1, 0, 1)]
+    return sorted({x for x in got if MIN <= x <= MAX})
+
+
+def distances(a, x, r):
+    """Distances at which an end just falls out or in, those beside them, and the extremes."""
+    got = [0, 1, 2**63 - 1, 2**63, FAR - 1, FAR, r.randrange(2**r.randint(1, 64))]
+    for m in rules.flat(a): got += [abs(m - x) + d for d in (-1, 0, 1)]
+    return sorted({d for d in got if 0 <= d <= FAR})
+
+
+def most(r, n, values):
+    return values if len(values) <= n else r.sample(values, n)
+
+
+def asked_sets(r):
+    return MARKED_SETS + [[edge(r)] for _ in range(10)] + [some(r, n) for n in range(1, 17) for _ in range(2)]
+
+
+def refused_setpoints(r):
+    """Slices that are refused, each with a number."""
+    return [(bad, number(r)) for bad, _ in damaged(r)] + [([], x) for x in (MIN, -1, 0, 1, 1000, MAX)]
+
+
+def nearest_cases(r):
+    got = []
+    for a in asked_sets(r):
+        ties = [(e + s) // 2 for (_, e), (s, _) in zip(a, a[1:]) if (e + s) % 2 == 0]
+        got += [(rules.flat(a), x) for x in most(r, 8, asked(a, r)) + most(r, 2, ties)]
+    return got + refused_setpoints(r)
+
+
+def within_cases(r):
+    """set, number, distance, out length."""
+    got = []
+    for a in asked_sets(r):
+        ends, numbers = rules.flat(a), asked(a, r)
+        pairs = [(x, d) for x in most(r, 3, numbers) for d in most(r, 2, distances(a, x, r))] + [(r.choice(numbers), FAR)]
+        for x in most(r, 1, [x for x in numbers if not rules.member(x, a)]):
+            least = abs(rules.nearest(ends, x)[1] - x)
+            pairs += [(x, least - 1), (x, least)]
+        for x, d in pairs:
+            size = rules.within(ends, x, d, [0] * 32)[1]
+            got.append((ends, x, d, size + r.choice((0, 0, 1, 4))))
+            if size > 0 and r.random() < .2: got.append((ends, x, d, r.choice((0, size - 1))))
+    for bad, x in refused_setpoints(r): got += [(bad, x, r.choice((0, 1, FAR)), 0), (bad, x, r.choice((0, 1, FAR)), 40)]
+    return got
+
+
 # ---- writing
 
 class Oracle:
@@ -167,6 +228,11 @@ class Oracle:
 def request(op, left, flag, right):
     words = [op, str(int(flag))] + [str(z) for z in left]
     return ' '.join(words if op in ONE_SET else words + ['/'] + [str(z) for z in right])
+
+
+def stored(left, right, flag, number, flag_after, mark, work, room, zeroed, answer):
+    head = struct.pack('<6B4H2x', len(left), len(right), flag, number, flag_after, mark, len(answer), work, room, zeroed)
+    return head + struct.pack('<%dq' % (len(left) + len(right) + len(answer)), *left, *right, *answer)
 
 
 def set_file(op, oracle, r):
@@ -187,9 +253,30 @@ def set_file(op, oracle, r):
         refused[number] += 1
         zeroed = need(op, left, right) if number in (0, 4) else 0
         assert work_after == [0] * zeroed + [-1] * (work - zeroed) and out_after[count:] == [-2] * (room - count)
-        out.append(struct.pack('<6B4H2x', len(left), len(right), flag, number, flag_after, mark, count, work, room, zeroed))
-        out.append(struct.pack('<%dq' % (len(left) + len(right) + count), *left, *right, *out_after[:count]))
+        out.append(stored(left, right, flag, number, flag_after, mark, work, room, zeroed, out_after[:count]))
     print('%-9s %4d cases, %3d marked, refused 1 to 4: %s, %d bytes' % (op, len(cases), marks, refused[1:], sum(map(len, out))))
+    return b''.join(out)
+
+
+def nearest_file(r):
+    out, refused = [], [0] * 11
+    for ends, x in nearest_cases(r):
+        number, member = rules.nearest(ends, x)
+        refused[number] += 1
+        out.append(stored(ends, [x], False, number, False, False, 0, 0, 0, [] if number else [member]))
+    print('nearest   %4d cases, refused 1, 2, 10: %s, %d bytes' % (len(out), [refused[n] for n in (1, 2, 10)], sum(map(len, out))))
+    return b''.join(out)
+
+
+def within_file(r):
+    out, refused, empty = [], [0] * 11, 0
+    for ends, x, distance, room in within_cases(r):
+        number, count, flag, out_after = rules.within(ends, x, distance, [-2] * room)
+        assert out_after[count:] == [-2] * (room - count)
+        refused[number] += 1
+        empty += (number, count) == (0, 0)
+        out.append(stored(ends, [x, rules.wrap(distance)], False, number, flag, False, 0, room, 0, out_after[:count]))
+    print('within    %4d cases, %d empty, refused 1, 2, 4, 10: %s, %d bytes' % (len(out), empty, [refused[n] for n in (1, 2, 4, 10)], sum(map(len, out))))
     return b''.join(out)
 
 
@@ -211,6 +298,8 @@ def main():
     oracle, folder = Oracle(sys.argv[1]), sys.argv[2]
     for op in ONE_SET + TWO_SETS:
         with open(os.path.join(folder, op), 'wb') as f: f.write(set_file(op, oracle, random.Random('%d %s' % (SEED, op))))
+    for op, file in (('nearest', nearest_file), ('within', within_file)):
+        with open(os.path.join(folder, op), 'wb') as f: f.write(file(random.Random('%d %s' % (SEED, op))))
     for op in POINTS:
         with open(os.path.join(folder, 'point_' + op), 'wb') as f: f.write(point_file(op, oracle, random.Random('%d point %s' % (SEED, op))))
 

@@ -3,7 +3,7 @@
 #include <stdio.h>
 #include <string.h>
 
-_Static_assert(sizeof(juwenfo_maybe) == 16 && sizeof(juwenfo_answer) == 16 && sizeof(juwenfo_part) == 16 && sizeof(juwenfo_verdict) == 24 && sizeof(juwenfo_text) == 24, "sizes");
+_Static_assert(sizeof(juwenfo_maybe) == 16 && sizeof(juwenfo_answer) == 16 && sizeof(juwenfo_member) == 16 && sizeof(juwenfo_part) == 16 && sizeof(juwenfo_verdict) == 24 && sizeof(juwenfo_text) == 24, "sizes");
 
 static int faults;
 
@@ -59,6 +59,68 @@ static void sets(void) {
     expect(juwenfo_set_neg(l, 2, false, work, 3, out, 8).number == 3, "3");
     expect(juwenfo_set_neg(l, 2, false, work, 4, out, 1).number == 4, "4");
     expect(juwenfo_set_not(NULL, 0, NULL, 0).number == 0, "an empty set");
+}
+
+static int64_t copy[34];
+
+/* nearest gives this number and member, and leaves the set as lent. */
+static void nearest(const int64_t *set, size_t n, int64_t x, uint8_t number, int64_t member, const char *what) {
+    memcpy(copy, set, n * sizeof *set);
+    juwenfo_member m = juwenfo_set_nearest(copy, n, x);
+    expect(m.number == number && m.member == member && memcmp(copy, set, n * sizeof *set) == 0, what);
+}
+
+/* within, with `room` numbers of out, gives this number, writes these ends and no number behind them, and leaves the set as lent. */
+static void within(const int64_t *set, size_t n, int64_t x, uint64_t distance, size_t room, uint8_t number, size_t count, const int64_t *ends, const char *what) {
+    memcpy(copy, set, n * sizeof *set);
+    for (size_t i = 0; i < 8; i++)
+        out[i] = 7;
+    juwenfo_answer a = juwenfo_set_within(copy, n, x, distance, out, room);
+    bool kept = memcmp(copy, set, n * sizeof *set) == 0;
+    for (size_t i = count; i < 8; i++)
+        kept = kept && out[i] == 7;
+    expect(a.number == number && !a.flag && a.count == count && memcmp(out, ends, count * sizeof *out) == 0 && kept, what);
+}
+
+static void members(void) {
+    const int64_t two[] = {1, 1, 5, 5}, all[] = {INT64_MIN, INT64_MAX}, far[] = {INT64_MIN, INT64_MIN, INT64_MAX, INT64_MAX};
+    int64_t many[34]; /* 17 intervals */
+    for (int i = 0; i < 34; i++)
+        many[i] = 3 * i;
+    nearest(two, 4, 3, 0, 1, "nearest, a tie");
+    nearest(two, 4, 4, 0, 5, "nearest, the upper one");
+    nearest(two, 4, 5, 0, 5, "nearest, a member");
+    nearest(E(-9, -2, 4, 8), 4, -5, 0, -5, "nearest, inside an interval");
+    nearest(two, 4, INT64_MIN, 0, 1, "nearest, below all");
+    nearest(two, 4, INT64_MAX, 0, 5, "nearest, above all");
+    nearest(far, 4, 0, 0, INT64_MAX, "nearest, 2^63 - 1 above");
+    nearest(far, 4, -1, 0, INT64_MIN, "nearest, 2^63 - 1 below");
+    nearest(E(-INT64_MAX, -INT64_MAX, INT64_MAX, INT64_MAX), 4, 0, 0, -INT64_MAX, "nearest, the widest tie");
+    nearest(far, 2, INT64_MAX, 0, INT64_MIN, "nearest, 2^64 - 1 below");
+    nearest(far + 2, 2, INT64_MIN, 0, INT64_MAX, "nearest, 2^64 - 1 above");
+    within(two, 4, 3, 2, 8, 0, 4, two, "within, both ends included");
+    within(two, 4, 3, 1, 0, 0, 0, two, "within, no member, no out");
+    within(two, 4, 5, 0, 2, 0, 2, two + 2, "within, distance 0");
+    within(E(-9, -2, 4, 8), 4, 0, 6, 4, 0, 4, E(-6, -2, 4, 6), "within, cut on both sides");
+    within(all, 2, 0, INT64_MAX, 2, 0, 2, E(-INT64_MAX, INT64_MAX), "within, all but MIN");
+    within(all, 2, INT64_MIN, UINT64_MAX - 1, 2, 0, 2, E(INT64_MIN, INT64_MAX - 1), "within, all but MAX");
+    within(all, 2, INT64_MAX, UINT64_MAX, 2, 0, 2, all, "within, the longest distance");
+    within(far, 4, INT64_MAX, UINT64_MAX, 4, 0, 4, far, "within, the longest distance, of two");
+    within(far, 4, INT64_MAX, UINT64_MAX - 1, 4, 0, 2, far + 2, "within, one less than the longest distance");
+    const struct {
+        const int64_t *set;
+        size_t n;
+        uint8_t number;
+        const char *what;
+    } refused[] = {{many, 34, 2, "2"}, {many, 33, 2, "2, of odd length"}, {E(1, 2, 3, 4), 4, 1, "1"}, {two, 3, 1, "1, of odd length"}, {two, 0, 10, "10"}};
+    for (size_t i = 0; i < sizeof refused / sizeof *refused; i++) {
+        nearest(refused[i].set, refused[i].n, 3, refused[i].number, 0, refused[i].what);
+        within(refused[i].set, refused[i].n, 3, 2, 8, refused[i].number, 0, two, refused[i].what);
+        within(refused[i].set, refused[i].n, 3, 2, 0, refused[i].number, 0, two, refused[i].what);
+    }
+    within(two, 4, 3, 2, 3, 4, 0, two, "4");
+    within(two, 4, 3, 2, 0, 4, 0, two, "4, no out");
+    expect(juwenfo_set_nearest(NULL, 0, 3).number == 10 && juwenfo_set_within(NULL, 0, 3, 2, NULL, 0).number == 10, "10, no numbers at all");
 }
 
 static int64_t bands[JUWENFO_SETS];
@@ -135,6 +197,7 @@ static void pages(void) {
 int main(void) {
     numbers();
     sets();
+    members();
     sheets();
     listings();
     pages();

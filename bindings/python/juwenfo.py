@@ -17,7 +17,7 @@ MIN, MAX, ONE = -(1 << 63), (1 << 63) - 1, 1000
 REGISTERS, SLOT, WORK = 16, 33, 8192
 LISTING, PAGE = 11081, 18688  # bytes that hold any listing, and any page
 
-WORDS = {  # each number that there is, with what it means: 1 to 9 are refusals, 20 to 22 findings
+WORDS = {  # each number that there is, with what it means: 1 to 10 are refusals, 20 to 22 findings
     1: "a set has an odd number of ends, or is not sorted with a gap between its intervals",
     2: "a set has over 16 intervals",
     3: "a lent slice is too short to work in",
@@ -27,6 +27,7 @@ WORDS = {  # each number that there is, with what it means: 1 to 9 are refusals,
     7: "a number is beyond MIN..MAX",
     8: "an `in` behind another kind of line, or a second one for a register",
     9: "a form's set has over 16 intervals",
+    10: "the set is empty",
     20: "a divisor may be 0, or is 0 in a run",
     21: "a held register may have a value outside, or has one in a run",
     22: "a lent number is outside its `in` line",
@@ -34,7 +35,7 @@ WORDS = {  # each number that there is, with what it means: 1 to 9 are refusals,
 
 
 class Refused(Exception):
-    """A set call was refused: 1 not normal, 2 more than 16 intervals."""
+    """A set call was refused: 1 not normal, 2 more than 16 intervals, 10 empty (nearest, within)."""
 
     def __init__(self, number):
         super().__init__(number)
@@ -61,6 +62,10 @@ class _Maybe(ctypes.Structure):
 
 class _Answer(ctypes.Structure):
     _fields_ = [("count", ctypes.c_size_t), ("number", ctypes.c_uint8), ("flag", ctypes.c_bool)]
+
+
+class _Member(ctypes.Structure):
+    _fields_ = [("member", ctypes.c_int64), ("number", ctypes.c_uint8)]
 
 
 class _Part(ctypes.Structure):
@@ -177,6 +182,26 @@ set_add, set_sub, set_mul, set_div, set_rem = (_set_work(n, 2) for n in ("add", 
 set_not = _set_plain("not", 1)
 set_and, set_or, set_le, set_lt, set_ne = (_set_plain(n, 2) for n in ("and", "or", "le", "lt", "ne"))
 set_union, set_intersect = (_set_plain(n, 2) for n in ("union", "intersect"))
+
+_nearest = _declared("set_nearest", _SLICE + [ctypes.c_int64], _Member)
+_within = _declared("set_within", _SLICE + [ctypes.c_int64, ctypes.c_uint64] + _SLICE, _Answer)
+
+
+def set_nearest(s, x):
+    """The member closest to x; of two at the same distance the lower one."""
+    ends = _slice(_ends(s))
+    m = _nearest(ends, len(ends), _number(x))
+    if m.number:
+        raise Refused(m.number)
+    return m.member
+
+
+def set_within(s, x, distance):
+    """Just the members at most `distance` away from x, a set alone; a distance is an int from 0 to 2**64 - 1."""
+    if not 0 <= distance < 1 << 64:
+        raise OverflowError("the distance %d is not from 0 to 2**64 - 1" % distance)
+    ends = _slice(_ends(s))
+    return _written(_within, ends, len(ends), _number(x), distance)[0]
 
 
 # ---- sheets: a text is bytes

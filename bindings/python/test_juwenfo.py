@@ -44,6 +44,37 @@ class Calls(unittest.TestCase):
                 j.set_neg(left)
             self.assertEqual(e.exception.number, number)
 
+    def test_nearest(self):
+        far = [(MIN, MIN), (MAX, MAX)]
+        self.assertEqual([j.set_nearest([(1, 1), (5, 5)], x) for x in (3, 4, 5, MIN, MAX)], [1, 5, 5, 1, 5])  # 3 is a tie
+        self.assertEqual(j.set_nearest([(-9, -2), (4, 8)], -5), -5)
+        self.assertEqual([j.set_nearest(far, 0), j.set_nearest(far, -1), j.set_nearest([(-MAX, -MAX), (MAX, MAX)], 0)], [MAX, MIN, -MAX])
+        self.assertEqual([j.set_nearest(far[:1], MAX), j.set_nearest(far[1:], MIN)], [MIN, MAX])
+
+    def test_within(self):
+        two, far, most = [(1, 1), (5, 5)], [(MIN, MIN), (MAX, MAX)], (1 << 64) - 1
+        self.assertEqual([j.set_within(two, 3, d) for d in (2, 1)] + [j.set_within(two, 5, 0)], [two, [], two[1:]])
+        self.assertEqual(j.set_within([(-9, -2), (4, 8)], 0, 6), [(-6, -2), (4, 6)])
+        self.assertEqual([j.set_within([(MIN, MAX)], 0, MAX), j.set_within([(MIN, MAX)], MIN, most - 1)], [[(-MAX, MAX)], [(MIN, MAX - 1)]])
+        self.assertEqual([j.set_within(far, MAX, most), j.set_within(far, MAX, most - 1)], [far, far[1:]])
+        for room, want in ((5, (0, 4, False, [1, 1, 5, 5, 7])), (4, (0, 4, False, [1, 1, 5, 5])), (3, (4, 0, False, [7] * 3)), (0, (4, 0, False, []))):
+            out = (ctypes.c_int64 * room)(*[7] * room)
+            a = j._within((ctypes.c_int64 * 4)(1, 1, 5, 5), 4, 3, 2, out, room)
+            self.assertEqual((a.number, a.count, a.flag, out[:]), want)
+
+    def test_around_a_number_refused(self):
+        for left, number, words in (([(3 * i, 3 * i) for i in range(17)], 2, "over 16"), ([(1, 2), (3, 4)], 1, "not sorted"), ([], 10, "is empty")):
+            for call in (lambda: j.set_nearest(left, 3), lambda: j.set_within(left, 3, 2)):
+                with self.assertRaises(j.Refused) as e:
+                    call()
+                self.assertEqual(e.exception.number, number)
+                self.assertIn(words, str(e.exception))
+        for x in (MIN - 1, MAX + 1):
+            self.assertRaises(OverflowError, j.set_nearest, [(1, 1)], x)
+            self.assertRaises(OverflowError, j.set_within, [(1, 1)], x, 0)
+        for distance in (-1, 1 << 64):
+            self.assertRaises(OverflowError, j.set_within, [(1, 1)], 0, distance)
+
     def test_sheets(self):
         self.assertEqual([j.line(SHEET, 1), j.line(SHEET, 0), j.line(SHEET, 4), j.judge(SHEET)], [b"(in 0 -1 2)", b"", b"", 3])
         self.assertEqual(j.check(SHEET)[:3], [[(-1000, 2000)], [(-2500, 5000)], [(0, 0)]])
@@ -89,7 +120,7 @@ class Calls(unittest.TestCase):
         self.assertEqual(written(j._page, text, j.PAGE - 1)[:3], (4, 0, 0))
 
     def test_words_and_version(self):
-        self.assertEqual(list(j.WORDS), [*range(1, 10), 20, 21, 22])
+        self.assertEqual(list(j.WORDS), [*range(1, 11), 20, 21, 22])
         for number, words in j.WORDS.items():
             self.assertEqual(str(j.Trouble(number, 3)), "number %d at line 3: %s" % (number, words))
             self.assertEqual(str(j.Refused(number)), "refused with %d: %s" % (number, words))

@@ -1,11 +1,12 @@
 //! Set operations. A set is the ends of its intervals, start and end in turn; it is normal if every start is at most its end and at least one number
-//! is missing between neighbours. Each call writes its answer, again a normal set, to `out`.
+//! is missing between neighbours. Each call but [`nearest`] writes its answer, again a normal set, to `out`.
 //!
 //! Refusals, in this order: 2 and 1 of the left set, 2 and 1 of the right set, 3 (`work` is shorter than [`need`]), 4 (`out` is shorter than the answer).
 //! After 1, 2 and 3 every slice is as lent; after 4 `out` is; what stands behind the answer, or behind the need, is never written.
+//! [`nearest`] and [`within`] refuse an empty set with 10, after 2 and 1 and before 4.
 //!
-//! One flag does not speak for the calls before it: no call asks for the right set's, and `not`, `and`, `or`, `le`, `lt`, `ne`, `union` and `intersect`
-//! answer false. So who chains calls keeps the OR of the flags of all answers on the way.
+//! One flag does not speak for the calls before it: no call asks for the right set's, and `not`, `and`, `or`, `le`, `lt`, `ne`, `union`, `intersect`
+//! and `within` answer false. So who chains calls keeps the OR of the flags of all answers on the way.
 use crate::sys;
 
 /// How many numbers were written to `out`, and the flag of the answer.
@@ -17,7 +18,7 @@ pub struct Written {
     pub flag: bool,
 }
 
-/// The number of a refusal, 1 to 4.
+/// The number of a refusal, 1 to 4 or 10.
 #[derive(Clone, Copy, Debug, PartialEq, Eq)]
 pub struct Refused(pub u8);
 
@@ -134,4 +135,18 @@ two!(
 /// What [`crate::number::not`] can give: a set of 0 and 1000.
 pub fn not(left: &[i64], out: &mut [i64]) -> Reply {
     reply(unsafe { sys::juwenfo_set_not(left.as_ptr(), left.len(), out.as_mut_ptr(), out.len()) })
+}
+
+/// The member closest to `x`; of two at the same distance the lower one.
+pub fn nearest(set: &[i64], x: i64) -> Result<i64, Refused> {
+    let m = unsafe { sys::juwenfo_set_nearest(set.as_ptr(), set.len(), x) };
+    match m.number {
+        0 => Ok(m.member),
+        k => Err(Refused(k)),
+    }
+}
+
+/// Just the members at most `distance` away from `x`; distances do not wrap. An `out` as long as `set` is never too short.
+pub fn within(set: &[i64], x: i64, distance: u64, out: &mut [i64]) -> Reply {
+    reply(unsafe { sys::juwenfo_set_within(set.as_ptr(), set.len(), x, distance, out.as_mut_ptr(), out.len()) })
 }

@@ -21,6 +21,14 @@ pub struct Answer {
 #[repr(C)]
 #[must_use]
 #[derive(Clone, Copy)]
+pub struct Member {
+    pub member: i64,
+    pub number: u8,
+}
+
+#[repr(C)]
+#[must_use]
+#[derive(Clone, Copy)]
 pub struct Part {
     pub start: usize,
     pub length: usize,
@@ -77,6 +85,8 @@ extern "C" {
     pub fn juwenfo_set_ne(l: *const i64, ln: usize, r: *const i64, rn: usize, o: *mut i64, on: usize) -> Answer;
     pub fn juwenfo_set_union(l: *const i64, ln: usize, r: *const i64, rn: usize, o: *mut i64, on: usize) -> Answer;
     pub fn juwenfo_set_intersect(l: *const i64, ln: usize, r: *const i64, rn: usize, o: *mut i64, on: usize) -> Answer;
+    pub fn juwenfo_set_nearest(s: *const i64, sn: usize, x: i64) -> Member;
+    pub fn juwenfo_set_within(s: *const i64, sn: usize, x: i64, distance: u64, o: *mut i64, on: usize) -> Answer;
 
     pub fn juwenfo_line(text: *const u8, len: usize, n: usize) -> Part;
     pub fn juwenfo_judge(text: *const u8, len: usize) -> Verdict;

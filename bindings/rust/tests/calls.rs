@@ -81,6 +81,44 @@ fn refusals_of_sets() {
     assert_eq!(set::need(set::DIV, &[1, 2, 4, 5], &[1, 2]), 48);
 }
 
+#[test]
+fn nearest() {
+    let far = [MIN, MIN, MAX, MAX];
+    assert_eq!([3, 4, 5, MIN, MAX].map(|x| set::nearest(&[1, 1, 5, 5], x)), [1, 5, 5, 1, 5].map(Ok)); // 3 is a tie
+    assert_eq!(set::nearest(&[-9, -2, 4, 8], -5), Ok(-5));
+    assert_eq!((set::nearest(&far, 0), set::nearest(&far, -1), set::nearest(&[-MAX, -MAX, MAX, MAX], 0)), (Ok(MAX), Ok(MIN), Ok(-MAX)));
+    assert_eq!((set::nearest(&far[..2], MAX), set::nearest(&far[2..], MIN)), (Ok(MIN), Ok(MAX)));
+}
+
+/// The answer in an out of `room` numbers: no number behind it is written, and none at all after a refusal.
+fn within(set: &[i64], x: i64, distance: u64, room: usize) -> Result<Vec<i64>, Refused> {
+    let mut out = [OLD; 64];
+    let written = set::within(set, x, distance, &mut out[..room]);
+    let count = written.map_or(0, |w| w.count);
+    assert!(written.map_or(true, |w| !w.flag) && out[count..].iter().all(|&x| x == OLD));
+    written.map(|_| out[..count].to_vec())
+}
+
+#[test]
+fn withins() {
+    let (two, far, all) = ([1, 1, 5, 5], [MIN, MIN, MAX, MAX], [MIN, MAX]);
+    assert_eq!((within(&two, 3, 2, 64), within(&two, 3, 1, 0), within(&two, 5, 0, 2)), (Ok(two.to_vec()), Ok(vec![]), Ok(vec![5, 5])));
+    assert_eq!(within(&[-9, -2, 4, 8], 0, 6, 4), Ok(vec![-6, -2, 4, 6]));
+    assert_eq!((within(&all, 0, MAX as u64, 2), within(&all, MIN, u64::MAX - 1, 2)), (Ok(vec![-MAX, MAX]), Ok(vec![MIN, MAX - 1])));
+    assert_eq!((within(&all, MAX, u64::MAX, 2), within(&far, MAX, u64::MAX, 4)), (Ok(all.to_vec()), Ok(far.to_vec())));
+    assert_eq!(within(&far, MAX, u64::MAX - 1, 4), Ok(vec![MAX, MAX]));
+    assert_eq!((within(&two, 3, 2, 3), within(&two, 3, 2, 0)), (Err(Refused(4)), Err(Refused(4))));
+}
+
+#[test]
+fn refusals_around_a_number() {
+    let long: Vec<i64> = (0..34).map(|i| 3 * i).collect();
+    for (set, number) in [(&long[..], 2), (&long[1..], 2), (&[1, 2, 3, 4], 1), (&[1, 1, 5], 1), (&[], 10)] {
+        assert_eq!(set::nearest(set, 3), Err(Refused(number)));
+        assert_eq!((within(set, 3, 2, 64), within(set, 3, 2, 0)), (Err(Refused(number)), Err(Refused(number))));
+    }
+}
+
 const SHEET: &[u8] = b"(in 0 -1 2)\n(put 1 (mul (reg 0) 2.5))\n(hold 1 -3 5)\n";
 
 #[test]
@@ -166,7 +204,7 @@ fn longest_page() {
 
 #[test]
 fn words_and_version() {
-    let numbers: Vec<u8> = (1..=9).chain(20..=22).collect();
+    let numbers: Vec<u8> = (1..=10).chain(20..=22).collect();
     assert_eq!(WORDS.map(|w| w.0), numbers[..]);
     for (number, words) in WORDS {
         assert_eq!(Trouble { number, line: 3 }.to_string(), format!("number {number} at line 3: {words}"));

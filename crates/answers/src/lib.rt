@@ -2,12 +2,14 @@
 ghost use mathlib.Core.Path.{_≡_};
 ghost use Rattle.number.specs.Maybe.{maybe as maybeOf};
 ghost use Rattle.replies.specs.Returning.{returned};
+ghost use Rattle.setpoints.specs.Saying.{memberOf as setpointMember};
 ghost use Rattle.sheet.specs.Answer.{judgementOf};
 ghost use Rattle.run.specs.Answer.{verdictOf as ranVerdict};
 ghost use Rattle.sheet_check.specs.Answer.{verdictOf as checkedVerdict};
 ghost use Rattle.texts.specs.Answers.{verdictOf as textVerdict};
-ghost use Rattle.answers.specs.Answers.{maybeFor, answerOf, verdictOf, textOf};
+ghost use Rattle.answers.specs.Answers.{maybeFor, answerOf, memberOf, verdictOf, textOf};
 use replies::Reply;
+use setpoints::Setpoint;
 use sheet::Judgement;
 
 // What stands in for a number that is missing.
@@ -26,6 +28,13 @@ pub struct Answer {
     pub count: usize,
     pub number: u8,
     pub flag: bool,
+}
+
+// 0 and a member of a set; or the number of a refusal and member 0.
+#[repr(C)]
+pub struct Member {
+    pub member: i64,
+    pub number: u8,
 }
 
 // 0, line 0 and the count of lines; or the number of a refusal or finding, its line, and count 0.
@@ -74,6 +83,22 @@ pub fn for_reply(r: Reply) -> Answer
             count: 0,
             number: k,
             flag: false,
+        },
+    }
+}
+
+// The closest member of a set.
+pub fn for_setpoint(s: Setpoint) -> Member
+    ensures { λ r. ⌜ memberOf r ≡ setpointMember s ⌝ }
+{
+    match s {
+        Setpoint::Member(m) => Member {
+            member: m,
+            number: 0,
+        },
+        Setpoint::Refused(refusal) => Member {
+            member: NONE,
+            number: refusal,
         },
     }
 }

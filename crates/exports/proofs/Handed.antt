@@ -4,13 +4,14 @@ use mathlib.Core.Bool.{Bool}
 use mathlib.Core.List.{List}
 use lib.IntN.{ℤ}
 use lib.Signed.{mag}
-use Prim.Native.Nat.{_<_, _^_}
+use Prim.Native.Nat.{ℕ, _<_, _^_}
 use mir.Syntax.{w64}
 use mir.Val.{SFits}
 use mir.Facts.{toZ-ofZ}
 use Rattle.meaning.specs.Number.{Op1, Op2}
 use Rattle.meaning.specs.SetCalls.{Returned}
-use Rattle.meaning.specs.Contracts.{Works1, Works2, Gives1, Gives2, Unites, Meets}
+use Rattle.meaning.specs.Setpoints.{ReturnedMember}
+use Rattle.meaning.specs.Contracts.{Works1, Works2, Gives1, Gives2, Unites, Meets, Nears, Reaches}
 use Rattle.laws.proofs.Machine.{rd, ok}
 
 -- an answer of any type
@@ -48,3 +49,12 @@ module _ {x y : Returned} (e : y ≡ x) where
 
   pub meets : {left right out out′ : List ℤ} → Meets left right out x out′ → Meets left right out y out′
   meets {left} {right} {out} {out′} h = subst (λ (t : Returned). Meets left right out t out′) (sym e) h
+
+-- and where a number is handed on beside the slices
+module _ {x : ℤ} (g : SFits w64 x) where
+  pub nears : {set : List ℤ} {a b : ReturnedMember} → b ≡ a → Nears set (rd x) a → Nears set x b
+  nears {set} {b} e h = subst (λ (z : ℤ). Nears set z b) (toZ-ofZ g) (subst (λ (t : ReturnedMember). Nears set (rd x) t) (sym e) h)
+
+  pub reaches : {set : List ℤ} {d : ℕ} {out out′ : List ℤ} {a b : Returned} → b ≡ a → Reaches set (rd x) d out a out′ → Reaches set x d out b out′
+  reaches {set} {d} {out} {out′} {b} e h =
+      subst (λ (z : ℤ). Reaches set z d out b out′) (toZ-ofZ g) (subst (λ (t : Returned). Reaches set (rd x) d out t out′) (sym e) h)

@@ -1,10 +1,12 @@
 // Sets: each function is one call of a function of `number_intervals`. A set is the ends of its intervals in a slice, its flag beside it. Judged in this order:
-// left 2, left 1, right 2, right 1, 3, 4.
+// left 2, left 1, right 2, right 1, 10 for an empty set (nearest, within), 3, 4.
 use answers::Answer;
+use answers::Member;
 use answers::for_reply;
+use answers::for_setpoint;
 ghost use Rattle.meaning.specs.Number as point;
-ghost use Rattle.meaning.specs.Contracts.{Works1, Works2, Gives1, Gives2, Unites, Meets};
-ghost use Rattle.answers.specs.Answers.{answerOf};
+ghost use Rattle.meaning.specs.Contracts.{Works1, Works2, Gives1, Gives2, Unites, Meets, Nears, Reaches};
+ghost use Rattle.answers.specs.Answers.{answerOf, memberOf};
 
 // The set of the negatives of all members.
 #[no_mangle]
@@ -164,4 +166,20 @@ pub extern "C" fn juwenfo_set_intersect(left: &[i64], right: &[i64], out: &mut [
     ensures { λ r. ⌜ Meets (now (left .entry)) (now (right .entry)) (now (out .entry)) (answerOf r) (now (out .exit)) ⌝ }
 {
     for_reply(number_intervals::intersect(left, right, out))
+}
+
+// The member closest to x, the lower one on a tie.
+#[no_mangle]
+pub extern "C" fn juwenfo_set_nearest(set: &[i64], x: i64) -> Member
+    ensures { λ r. ⌜ Nears (now (set .entry)) x (memberOf r) ⌝ }
+{
+    for_setpoint(number_intervals::nearest(set, x))
+}
+
+// The set of the members within a distance of x.
+#[no_mangle]
+pub extern "C" fn juwenfo_set_within(set: &[i64], x: i64, distance: u64, out: &mut [i64]) -> Answer
+    ensures { λ r. ⌜ Reaches (now (set .entry)) x distance (now (out .entry)) (answerOf r) (now (out .exit)) ⌝ }
+{
+    for_reply(number_intervals::within(set, x, distance, out))
 }

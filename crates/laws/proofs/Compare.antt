@@ -166,7 +166,7 @@ module _ (a b : Set) (na : Normal a) (nb : Normal b) where
 -- ---- intersect: just the members of both
 
 module _ {s e t f : ℤ} where
-  meet-holds : {z : ℤ} → Between s z e → Between t z f → z ∈ meetPair s e t f
+  pub meet-holds : {z : ℤ} → Between s z e → Between t z f → z ∈ meetPair s e t f
   unfolding meetPair
   meet-holds {z} b c =
       let h = common b c in
@@ -174,7 +174,7 @@ module _ {s e t f : ℤ} where
       (λ _. here (between (h .0) (h .1)))
       (λ u. absurd (omega (zarith, h .0, h .1)))
 
-  meet-only : {z : ℤ} → z ∈ meetPair s e t f → Between s z e × Between t z f
+  pub meet-only : {z : ℤ} → z ∈ meetPair s e t f → Between s z e × Between t z f
   unfolding meetPair
   meet-only {z} m =
       let h = larger-ge s t in

@@ -51,7 +51,7 @@ module _ (k need : ℕ) (answer : Set) (flag : Bool) (out work : List ℤ) where
     pub returned : callReturns k need answer flag out work ≡ written (length (flat answer)) flag
     pub left : callOut k need answer flag out work ≡ over (flat answer) out
 
-  call-wrote : callReturns k need answer flag out work .number ≡ 0 → Wrote
+  pub call-wrote : callReturns k need answer flag out work .number ≡ 0 → Wrote
   unfolding callReturns callOut
   call-wrote e = go (eqb k 0) (ltb (length work) need) (ltb (length out) (length (flat answer))) refl refl refl e
     where
@@ -72,16 +72,16 @@ module _ (k need : ℕ) (answer : Set) (flag : Bool) (out work : List ℤ) where
   front : Wrote → take (callReturns k need answer flag out work .count) (callOut k need answer flag out work) ≡ flat answer
   front w = (λ i. take (w .returned i .count) (w .left i)) ∙ take-over (flat answer) out
 
-  shows : Wrote → shown (callReturns k need answer flag out work) (callOut k need answer flag out work) ≡ answer
+  pub shows : Wrote → shown (callReturns k need answer flag out work) (callOut k need answer flag out work) ≡ answer
   shows w = ap intervals (front w) ∙ intervals-flat answer
 
-  wrote-ends : Wrote → Normal answer → Stands (callReturns k need answer flag out work) (callOut k need answer flag out work)
+  pub wrote-ends : Wrote → Normal answer → Stands (callReturns k need answer flag out work) (callOut k need answer flag out work)
   wrote-ends w p = record {
     fits = rw (w .returned, w .left, length-over (flat answer) out (w .room)) (w .room);
     ends = record { normal = subst Normal (sym (shows w)) p; whole = ap flat (shows w) ∙ sym (front w) };
   }
 
-  flagged : Wrote → callReturns k need answer flag out work .flag ≡ flag
+  pub flagged : Wrote → callReturns k need answer flag out work .flag ≡ flag
   flagged w = ap (λ (r : Returned). r .flag) (w .returned)
 
 -- ---- one operand

@@ -101,7 +101,7 @@ union-length left right =
 
 -- ---- the calls
 
-refusal-known : (s : List ℤ) → refusal s ≡ noRoom → ⊥
+pub refusal-known : (s : List ℤ) → refusal s ≡ noRoom → ⊥
 unfolding refusal
 refusal-known s = go (ltb 32 (length s)) (normal s)
   where
@@ -118,7 +118,7 @@ refusal2-known left right = go (eqb (refusal left) 0)
     go true e = refusal-known right e
     go false e = refusal-known left e
 
-never-short : (k need : ℕ) (answer : Set) (flag : Bool) (out work : List ℤ) → (k ≡ noRoom → ⊥) → (k ≡ 0 → length (flat answer) ≤ length out)
+pub never-short : (k need : ℕ) (answer : Set) (flag : Bool) (out work : List ℤ) → (k ≡ noRoom → ⊥) → (k ≡ 0 → length (flat answer) ≤ length out)
     → callReturns k need answer flag out work .number ≡ noRoom → ⊥
 unfolding callReturns
 never-short k need answer flag out work h g = go (eqb k 0) refl (ltb (length work) need) (ltb (length out) (length (flat answer))) refl

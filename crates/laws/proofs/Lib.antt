@@ -1,5 +1,6 @@
 pub mod All
 pub mod CheckSets
+pub mod Closest
 pub mod Compare
 pub mod Composing
 pub mod Cut
@@ -8,6 +9,7 @@ pub mod Demand2
 pub mod Demand2Calls
 pub mod Demand3
 pub mod Demand3Calls
+pub mod Distances
 pub mod Exact
 pub mod Fine
 pub mod Flat
@@ -19,6 +21,7 @@ pub mod Lengths
 pub mod Lists
 pub mod Machine
 pub mod Members
+pub mod Near
 pub mod Over
 pub mod PageCalls
 pub mod PageColumns
@@ -31,6 +34,7 @@ pub mod Quotients
 pub mod RemainderCounts
 pub mod RemainderRules
 pub mod Remainders
+pub mod Setpoints
 pub mod Signs
 pub mod Slots
 pub mod Splits

@@ -2,4 +2,5 @@ pub mod Marked
 pub mod PageSamples
 pub mod Readings
 pub mod Samples
+pub mod SetpointSamples
 pub mod SheetReadings

@@ -1,12 +1,16 @@
--- What a set call promises: the number, count and flag that it returns, what it leaves in its slices, demand 2, and with which length of `out` it does not return 4. `r`, `out′` and `work′` are what the call returned and left. Assumes nothing.
+-- What a set call promises: the number, count and flag that it returns (nearest: the number and the member), what it leaves in its slices, demand 2 or for a setpoint its like, and with which length of `out`, where it has one, it does not return 4. `r`, `out′` and `work′` are what the call returned and left. Assumes nothing.
 use lib.IntN.{ℤ}
+use lib.ListN.{length}
 use mathlib.Core.Path.{_≡_}
 use mathlib.Core.Bool.{Bool, false}
 use mathlib.Core.List.{List, []}
+use Prim.Native.Nat.{ℕ}
 use Rattle.meaning.specs.Number.{Op1, Op2}
 use Rattle.meaning.specs.SetCalls.{Returned, returns1, out1, work1, returns2, out2, work2, returnsUnion, outUnion, returnsIntersect, outIntersect}
 use Rattle.meaning.specs.Demand2Calls.{Right1, Right2, RightUnion, RightIntersect}
 use Rattle.meaning.specs.Rooms.{most1, most2, mostBoth, NeverShort}
+use Rattle.meaning.specs.Setpoints.{ReturnedMember, nearestReturns, withinReturns, withinOut}
+use Rattle.meaning.specs.Closest.{RightNearest, RightWithin}
 
 -- neg, abs: one operand, with work
 pub record Works1 (o : Op1) (left : List ℤ) (flag : Bool) (out work : List ℤ) (r : Returned) (out′ work′ : List ℤ) : Type 0 where
@@ -49,3 +53,15 @@ pub record Meets (left right out : List ℤ) (r : Returned) (out′ : List ℤ) 
   pub writes : out′ ≡ outIntersect left right out
   pub demand2 : RightIntersect left right r out′
   pub room : NeverShort (mostBoth left right) out r
+
+-- nearest: it is lent no slice to write to
+pub record Nears (set : List ℤ) (x : ℤ) (r : ReturnedMember) : Type 0 where
+  pub returns : r ≡ nearestReturns set x
+  pub setpoint : RightNearest set x r
+
+-- within: one set, a number and a distance, without work
+pub record Reaches (set : List ℤ) (x : ℤ) (d : ℕ) (out : List ℤ) (r : Returned) (out′ : List ℤ) : Type 0 where
+  pub returns : r ≡ withinReturns set x d out
+  pub writes : out′ ≡ withinOut set x d out
+  pub setpoint : RightWithin set x d r out′
+  pub room : NeverShort (length set) out r

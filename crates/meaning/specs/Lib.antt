@@ -6,6 +6,7 @@ pub mod Bools
 pub mod Interval
 pub mod NumberIntervals
 pub mod SetCalls
+pub mod Setpoints
 pub mod Outcome
 pub mod Sheet
 pub mod Reading
@@ -18,6 +19,7 @@ pub mod Page
 pub mod Demand2
 pub mod Demand2Calls
 pub mod Rooms
+pub mod Closest
 pub mod Contracts
 pub mod Demand3
 pub mod Demand3Calls
@@ -31,3 +33,4 @@ pub mod Readings
 pub mod SheetReadings
 pub mod Samples
 pub mod PageSamples
+pub mod SetpointSamples

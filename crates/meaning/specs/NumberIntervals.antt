@@ -65,6 +65,10 @@ meetPair s e t f = cond (leZ (larger s t) (smaller e f)) (span (larger s t) (sma
 unfoldable pub intersect : Set → Set → Set
 intersect a b = rebuild (eachPair meetPair a b)
 
+-- (02, (ii)) each interval cut to [lo,hi], whose ends may lie past MIN and MAX; one without a number there is dropped. What is left of a normal set is normal, so nothing is joined
+abbrev pub cutTo : ℤ → ℤ → Set → Set
+cutTo lo hi a = each (λ s e. meetPair s e lo hi) a
+
 -- ---- bools (01, "BoolInterval")
 
 -- exactly {0}

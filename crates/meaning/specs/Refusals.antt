@@ -1,4 +1,4 @@
--- The numbers of document 01's table of refusals, and of its findings. The other definitions cite these names. Assumes nothing.
+-- The numbers of document 01's table of refusals and of its findings, and those that document 02 has added so far. The other definitions cite these names. Assumes nothing.
 use Prim.Native.Nat.{ℕ}
 
 -- a set: odd length or not normal
@@ -36,6 +36,10 @@ misplaced = 8
 -- the check: a form's set has over 16 intervals
 abbrev pub crowded : ℕ
 crowded = 9
+
+-- nearest, within: the set is empty (02, (ii))
+abbrev pub emptySet : ℕ
+emptySet = 10
 
 -- check and run: a divisor may be 0, or is 0
 abbrev pub zeroDivisor : ℕ

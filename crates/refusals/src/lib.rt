@@ -27,6 +27,9 @@ pub const MISPLACED: u8 = 8;
 // The check: a form's set has over 16 intervals.
 pub const CROWDED: u8 = 9;
 
+// Nearest, within: the set is empty.
+pub const EMPTY_SET: u8 = 10;
+
 // Numbers from here on are findings, those below refuse.
 pub const FINDINGS: u8 = 20;
 

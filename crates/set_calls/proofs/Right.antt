@@ -22,20 +22,20 @@ use Rattle.replies.specs.Returning.{returned, replyFor, Cased, Ended, Handed}
 use Rattle.replies.specs.declared.Reply.{Reply}
 use Rattle.replies.proofs.Said.{returned-reply}
 
-ranged : {l : List ℤ} → Argument l → All InRange l
+pub ranged : {l : List ℤ} → Argument l → All InRange l
 ranged {l} a =
     subst (λ (k : List ℤ). All InRange k) (even-flat l (normal-even l (a .set .test))) (flat-in-range (intervals l) (normal-proper (intervals l) (a .set .is)))
 
 -- what holds of x and o, if x refuses nothing, holds of what the call returned and left
-carried : {y x : Returned} {a o : List ℤ} (P : Returned → List ℤ → Type 0) → y ≡ x → a ≡ o → y .number ≡ 0 → (x .number ≡ 0 → P x o) → P y a
+pub carried : {y x : Returned} {a o : List ℤ} (P : Returned → List ℤ → Type 0) → y ≡ x → a ≡ o → y .number ≡ 0 → (x .number ≡ 0 → P x o) → P y a
 carried {x} {a} P p f n h =
     subst (λ (t : Returned). P t a) (sym p) (subst (λ (l : List ℤ). P x l) (sym f) (h (sym (ap (λ (t : Returned). t .number) p) ∙ n)))
 
-cased : {r : Reply} {x : Returned} → r ≡ replyFor x → returned r ≡ x → Cased r
+pub cased : {r : Reply} {x : Returned} → r ≡ replyFor x → returned r ≡ x → Cased r
 cased e p = e ∙ sym (ap replyFor p)
 
 -- it did not return 4, if x does not say so
-carried-room : {y x : Returned} (most : ℕ) (out : List ℤ) → y ≡ x → NeverShort most out x → NeverShort most out y
+pub carried-room : {y x : Returned} (most : ℕ) (out : List ℤ) → y ≡ x → NeverShort most out x → NeverShort most out y
 carried-room most out p h q n = h q (sym (ap (λ (t : Returned). t .number) p) ∙ n)
 
 -- arguments that are not refused have been read by the code

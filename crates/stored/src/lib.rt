@@ -6,9 +6,10 @@ ghost use Prim.Native.Nat.{_+_, _*_, _<_};
 ghost use lib.Dec.{eqb};
 ghost use lib.IntN.{pos};
 ghost use Rattle.meaning.specs.Number.{wrap};
-ghost use Rattle.stored.specs.Expected.{Expected};
+ghost use Rattle.stored.specs.Expected.{Expected, ExpectedMember};
 ghost use Rattle.stored.specs.Stored.{bitsAt};
 use replies::Reply;
+use setpoints::Setpoint;
 
 // A byte as a length.
 pub fn wide(b: u8) -> usize
@@ -73,5 +74,15 @@ pub fn reply_as_expected(reply: Reply, number: u8, count: usize, flag: bool) -> 
     match reply {
         Reply::Written(n, f) => (number == 0) & (n == count) & (f == flag),
         Reply::Refused(k) => (number != 0) & (k == number),
+    }
+}
+
+// Whether an answer of nearest is the one expected: a refusal by its number, success by its member.
+pub fn setpoint_as_expected(answer: Setpoint, number: u8, member: i64) -> bool
+    ensures { λ r. ⌜ (r ≡ true → ExpectedMember answer number member) × (ExpectedMember answer number member → r ≡ true) ⌝ }
+{
+    match answer {
+        Setpoint::Member(m) => (number == 0) & (m == member),
+        Setpoint::Refused(refusal) => (number != 0) & (refusal == number),
     }
 }

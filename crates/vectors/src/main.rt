@@ -1,13 +1,17 @@
-// Replays stored answers of the original Rust, and writes a line for each operation: how many cases, and whether all agree. The cases are files of data/,
-// whose README says how they were made.
+// Replays stored answers of the original Rust, and of a second reading where it has none, and writes a line for each operation: how many cases, and whether all
+// agree. The cases are files of data/, whose README says how they were made.
+mod case;
+mod closest;
 mod points;
 mod sets;
 
 use replay::Step;
 use replay::Tally;
 
-// How many operations are set calls; the others are point operations.
+// How many operations are set calls that the original has, and where the point operations end; the others are those for the closest setpoint.
 const SETS: u8 = 15;
+
+const POINTS_END: u8 = 30;
 
 // More turns than a file has cases: a proved loop has to end, and nothing says that a file does.
 const TURNS: usize = 1000000;
@@ -16,8 +20,10 @@ const TURNS: usize = 1000000;
 fn next_case(op: u8, fd: i32) -> Step {
     if op < SETS {
         sets::next_case(op, fd)
-    } else {
+    } else if op < POINTS_END {
         points::next_case(op - SETS, fd)
+    } else {
+        closest::next_case(op - POINTS_END, fd)
     }
 }
 
@@ -82,8 +88,15 @@ fn replay_points() {
     replay_file(29, b"point_prev");
 }
 
+// The calls for the closest setpoint, a file each.
+fn replay_closest() {
+    replay_file(30, b"nearest");
+    replay_file(31, b"within");
+}
+
 // A line of report for each operation.
 fn main() {
     replay_sets();
     replay_points();
+    replay_closest();
 }

@@ -1,47 +1,17 @@
 // The set calls. A case is 16 bytes that say what is lent and what is expected, then the numbers of the left set, the right set and the answer.
+use crate::case::Case;
+use crate::case::case_in;
+use crate::case::ready_out;
 use replay::Step;
 use replay::fill;
 use replay::fill_front;
 use replay::read_front;
 use replay::same;
 use replies::Reply;
-use stored::pair;
 use stored::reply_as_expected;
-use stored::wide;
 
-// What the slices hold when they are lent; no case has these numbers.
+// What work holds when it is lent; no case has this number.
 const OLD_WORK: i64 = -7777777;
-
-const OLD_OUT: i64 = -8888888;
-
-// What a case says but for its numbers: the lengths of both sets and the left flag; the refusal, count and flag expected; how long work and out are lent,
-// and how many numbers of the work are 0 afterwards.
-struct Case {
-    left: usize,
-    right: usize,
-    flag: bool,
-    number: u8,
-    count: usize,
-    flag_after: bool,
-    work: usize,
-    room: usize,
-    zeroed: usize,
-}
-
-// The case that the stored bytes say.
-fn case_in(b: &[u8; 16]) -> Case {
-    Case {
-        left: wide(b[0]),
-        right: wide(b[1]),
-        flag: b[2] == 1,
-        number: b[3],
-        count: pair(b[6], b[7]),
-        flag_after: b[4] == 1,
-        work: pair(b[8], b[9]),
-        room: pair(b[10], b[11]),
-        zeroed: pair(b[12], b[13]),
-    }
-}
 
 // The call that a file is about.
 fn call(
@@ -105,13 +75,6 @@ fn ready_work(c: Case, work: &mut [i64], cleared: &mut [i64]) -> bool {
     fill(work, OLD_WORK);
     fill(cleared, OLD_WORK);
     fill_front(cleared, c.zeroed, 0)
-}
-
-// What out is lent with, and what it is to be afterwards.
-fn ready_out(fd: i32, c: Case, out: &mut [i64], want: &mut [i64]) -> bool {
-    fill(out, OLD_OUT);
-    fill(want, OLD_OUT);
-    read_front(fd, want, c.count)
 }
 
 // Makes the call, and compares its reply and what it leaves.

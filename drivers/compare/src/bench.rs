@@ -7,14 +7,14 @@ use std::time::Instant;
 use yogi_oracle::arith::interval::{from_ends, NumberIntervals};
 
 /// n intervals: start, step from one to the next, width.
-fn comb(n: i64, (base, step, width): (i64, i64, i64)) -> Vec<i64> {
+pub fn comb(n: i64, (base, step, width): (i64, i64, i64)) -> Vec<i64> {
     (0..n).flat_map(|i| [base + i * step, base + i * step + width]).collect()
 }
 
 type Shape = (&'static str, (i64, i64, i64), (i64, i64, i64));
 
 /// Results that stay apart, results that join, and results that wrap.
-const SHAPES: [Shape; 3] = [
+pub const SHAPES: [Shape; 3] = [
     ("apart", (-7_000_000_000, 900_000_007, 5_000), (-3_000_000_000, 410_000_003, 7_000)),
     ("joining", (-40, 5, 2), (-30, 4, 1)),
     ("wrapping", (-9_000_000_000_000_000_000, 1_100_000_000_000_000_007, 1_000_000_000_000), (-8_000_000_000_000_000_000, 1_000_000_000_000_000_003, 1_000_000_000)),

@@ -15,6 +15,14 @@ pub struct Maybe {
     pub there: u8,
 }
 
+#[cfg(setpoints)]
+#[repr(C)]
+#[derive(Clone, Copy, Debug, PartialEq, Eq)]
+pub struct Member {
+    pub member: i64,
+    pub number: u8,
+}
+
 #[cfg(sheets)]
 #[repr(C)]
 #[derive(Clone, Copy, Debug, PartialEq, Eq)]
@@ -54,6 +62,11 @@ extern "C" {
     fn juwenfo_set_ne(l: *const i64, ln: usize, r: *const i64, rn: usize, o: *mut i64, on: usize) -> Answer;
     fn juwenfo_set_union(l: *const i64, ln: usize, r: *const i64, rn: usize, o: *mut i64, on: usize) -> Answer;
     fn juwenfo_set_intersect(l: *const i64, ln: usize, r: *const i64, rn: usize, o: *mut i64, on: usize) -> Answer;
+
+    #[cfg(setpoints)]
+    pub fn juwenfo_set_nearest(s: *const i64, sn: usize, x: i64) -> Member;
+    #[cfg(setpoints)]
+    pub fn juwenfo_set_within(s: *const i64, sn: usize, x: i64, distance: u64, o: *mut i64, on: usize) -> Answer;
 
     #[cfg(sheets)]
     pub fn juwenfo_check(text: *const u8, n: usize, sets: *mut i64, sn: usize, work: *mut i64, wn: usize) -> Verdict;

@@ -5,11 +5,11 @@ use crate::reading;
 use yogi_oracle::call::{point_call, set_call};
 
 /// Numbers kept on each side of a lent slice, which no call may alter.
-const GUARD: usize = 8;
+pub const GUARD: usize = 8;
 
 pub struct Tally {
     pub cases: u64,
-    pub refused: [u64; 5],
+    pub refused: [u64; 11],
     pub named: u64,
     pub original: u64,
     pub faults: u64,
@@ -27,7 +27,7 @@ impl Lent {
     }
 }
 
-fn fault(tally: &mut Tally, what: &str, case: std::fmt::Arguments) {
+pub fn fault(tally: &mut Tally, what: &str, case: std::fmt::Arguments) {
     tally.faults += 1;
     if tally.faults <= 20 {
         println!("FAULT: {what}: {case}");
@@ -52,7 +52,7 @@ fn expected(op: &Op, left: &[i64], right: &[i64], work: usize, out: usize, answe
     }
 }
 
-fn untouched(memory: &[i64], from: usize, to: usize, dirt: i64) -> bool {
+pub fn untouched(memory: &[i64], from: usize, to: usize, dirt: i64) -> bool {
     memory[from..to].iter().all(|&x| x == dirt)
 }
 

@@ -3,7 +3,8 @@
 //!   compare random CASES SEED [OP,OP]     random set calls: answers, refusals, lent lengths, the untouched rest of every slice
 //!   compare edges [OP,OP]                 every pair of intervals with their ends at the edges
 //!   compare points CASES SEED             the point operations
-//!   compare bench [ROUNDS [OP,OP]]        times of both in turns, and the ratios
+//!   compare setpoints CASES SEED          nearest and within, which the original has not, against plain arithmetic (where the archive has them)
+//!   compare bench [ROUNDS [OP,OP]]        times of both in turns, and the ratios; then those of nearest and within
 //!   compare sheets FILE..                 times of the check and the page of these sheets and of the heaviest ones (where the archive has them)
 //!
 //! Outside the differences that document 01 names, its rules (reading.rs) and the original must agree; inside them the archive is held to 01's rules.
@@ -12,6 +13,8 @@ mod calls;
 mod cases;
 mod compare;
 mod reading;
+#[cfg(setpoints)]
+mod setpoints;
 #[cfg(sheets)]
 mod sheets;
 
@@ -31,7 +34,7 @@ fn report(t: Tally, what: &str) {
 fn main() {
     let a: Vec<String> = std::env::args().skip(1).collect();
     let number = |i: usize| a.get(i).and_then(|w| w.parse::<u64>().ok()).unwrap_or_else(|| panic!("a number is missing; see the top of main.rs"));
-    let mut t = Tally { cases: 0, refused: [0; 5], named: 0, original: 0, faults: 0 };
+    let mut t = Tally { cases: 0, refused: [0; 11], named: 0, original: 0, faults: 0 };
     let mut lent = Lent::new();
     match a.first().map(|w| w.as_str()) {
         Some("random") => {
@@ -56,9 +59,16 @@ fn main() {
             }
             report(t, "points");
         }
-        Some("bench") => bench::all(a.get(1).map_or(60, |w| w.parse().expect("ROUNDS")), &ops(a.get(2))),
+        #[cfg(setpoints)]
+        Some("setpoints") => setpoints::random(t, number(1), number(2)),
+        Some("bench") => {
+            let rounds = a.get(1).map_or(60, |w| w.parse().expect("ROUNDS"));
+            bench::all(rounds, &ops(a.get(2)));
+            #[cfg(setpoints)]
+            setpoints::times(rounds);
+        }
         #[cfg(sheets)]
         Some("sheets") => sheets::all(&a[1..]),
-        _ => println!("compare random CASES SEED [OP,OP] | edges [OP,OP] | points CASES SEED | bench [ROUNDS [OP,OP]] | sheets FILE.."),
+        _ => println!("compare random CASES SEED [OP,OP] | edges [OP,OP] | points CASES SEED | setpoints CASES SEED | bench [ROUNDS [OP,OP]] | sheets FILE.."),
     }
 }

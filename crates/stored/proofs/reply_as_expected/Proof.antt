@@ -1,6 +1,6 @@
 -- By the reply's case, the comparison is true of the expected reply and of no other. Assumes nothing.
 use borrow.Author.Needs.{needs}
-use Rattle.stored.proofs.Expecting.{written-expected, expected-written, refused-expected, expected-refused}
+use Rattle.stored.proofs.Expecting.{written-expected, expected-written, refused-reply, reply-refused}
 use Rattle.stored.proofs.reply_as_expected.Statement.{statement}
 use Rattle.stored.proofs.reply_as_expected.Tie as tie
 
@@ -20,7 +20,7 @@ returns-2 : tie.Need-returns-2
 returns-2 c =
     let a = c .before .before .before .args in
     let r = c .before .reply2 .given .1 in
-    (refused-expected (a .number) (a .count) (a .flag) r, expected-refused (a .number) (a .count) (a .flag) r)
+    (refused-reply (a .number) (a .count) (a .flag) r, reply-refused (a .number) (a .count) (a .flag) r)
 
 pub reply-as-expected-spec : {M : Type 1} → statement M
 reply-as-expected-spec = tie.close (tie.spec enum-known-reply enum-known-reply-2 returns returns-2)

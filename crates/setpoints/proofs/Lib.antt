@@ -1,0 +1,4 @@
+pub mod Giving
+pub mod Refusing
+pub mod Turns
+pub mod Windows
