@@ -1,5 +1,5 @@
-"""Document 01, and what document 02 adds, in plain Python integers: point operations, set calls on lent slices, sheets. It uses nothing of crates/meaning,
-and is used to make the stored cases of crates/vectors and crates/sheets."""
+"""Document 01, as the requests of document 02 amend it, and what they add, in plain Python integers: point operations, set calls on lent slices, sheets.
+It uses nothing of crates/meaning, and is used to make the stored cases of crates/vectors and crates/sheets."""
 MIN, MAX = -2**63, 2**63 - 1
 FULL = 2**64
 ONE = 1000
@@ -400,12 +400,13 @@ class Crowded(Exception):
     pass
 
 def setof(e, sets):
+    """A form's set: left, right, form. At one form 20 comes before 9: 01 as request (iii) amends it."""
     if e[0] == 'lit': return [(e[1], e[1])]
     if e[0] == 'reg': return sets[e[1]]
     xs = [setof(x, sets) for x in e[1:]]
     got, flag = value(e[0], xs[0], False, xs[1] if len(xs) > 1 else None)
-    if len(got) > LIMIT: raise Crowded
     if flag: raise Stop(20)
+    if len(got) > LIMIT: raise Crowded
     return got
 
 def check_sets(text):
@@ -508,4 +509,7 @@ if __name__ == '__main__':
     assert nearest([MIN, MIN, MAX, MAX], 0) == (0, MAX) and nearest([MIN, MIN, MAX, MAX], -1) == (0, MIN)
     assert within([1, 1, 5, 5], 3, 1, [7]) == (0, 0, False, [7]) and within([1, 9], 3, 1, [7]) == (4, 0, False, [7])
     assert within([MIN, MIN, 5, MAX], MAX, 2**64 - 1, [7] * 5) == (0, 4, False, [MIN, MIN, 5, MAX, 7])
+    eight = b'(in 0 -1 1)\n(put 1 (le (reg 0) 0))\n(put 2 (add (reg 1) (mul 2 (reg 1))))\n(put 2 (add (reg 2) (mul 4 (add 1 (reg 1)))))\n'
+    assert listing(eight + b'(put 3 (div (reg 2) (sub (mul 9 (reg 1)) (mul 7 (reg 1)))))\n') == b'stop 20 5\n'
+    assert listing(eight + b'(put 3 (div (reg 2) (sub (mul 9 (reg 1)) (add 1 (mul 7 (reg 1))))))\n') == b'refused 9 5\n'
     print('marked values agree')

@@ -237,7 +237,7 @@ def crowds():
     add(sixteen + '(put 2 (add %s %s))\n' % (zero, crowded))
     add(sixteen + '(put 2 (add %s %s))\n' % (crowded, zero))
     add(sixteen + '(put 2 (le %s %s))\n' % (crowded, crowded))
-    # one form that is both: 9 comes before 20
+    # a divisor that may be 0, and the second form is crowded too: 20 comes before 9
     add(sixteen + '(put 2 (div (reg 1) (mul 0.001 (le (reg 0) 0))))\n')
     add(sixteen + '(put 2 (div (add (reg 1) 1) (sub (mul 3 (le (reg 0) 0)) (le (reg 0) -0.5))))\n')
     add(sixteen + '(put 2 (rem (reg 1) (mul 7 (le (reg 0) 0))))\n')
@@ -342,6 +342,88 @@ def pages():
     add(sixteen + 'x\n')
 
 
+# ---- a zero divisor at a crowded form: document 02 (iii)
+
+def hidden_zeros():
+    sixteen, bit = bits(4, 2), '(le (reg 0) 0)'
+    crowded, zero = '(add (reg 1) %s)' % bit, '(div 1 (reg 0))'
+    divided = '(div (reg 1) (sub (mul 9 %s) (mul 7 %s)))' % (bit, bit)
+    left_over = '(rem (reg 1) (add (mul 29 %s) (mul 71 %s)))' % (bit, bit)
+    stops, runs = lent_at(r0=1000), lent_at(r0=-1000)
+    # both at one form: 20. The run stops there too, or divides by 2 and 100
+    for both in (divided, left_over):
+        add(sixteen + '(put 2 %s)\n' % both, stops)
+        add(sixteen + '(put 2 %s)\n' % both, runs)
+        add(sixteen + '(put 2 (not %s))\n' % both)
+    # a zero divisor and 15 to 18 intervals
+    eight = bits(3, 2).replace('\n', '\n(in 3 -0.001 0.001)\n', 1)
+    nine = eight + '(put 1 (add (reg 1) (mul 2 %s)))\n' % bit
+    for some in (eight, nine):
+        add(some + '(put 2 (div (reg 1) (reg 3)))\n')
+        add(some + '(put 2 (div (add (reg 1) 1) (reg 3)))\n', lent_at(r3=1))
+    add(sixteen + '(put 2 (rem (reg 1) (mul 100 %s)))\n' % bit)
+    add(sixteen + '(put 2 (rem (neg (reg 1)) (mul 100 %s)))\n' % bit)
+    # a zero divisor alone, which leaves no interval
+    add(sixteen + '(put 2 (div (reg 1) 0))\n')
+    add(sixteen + '(put 2 (rem (reg 1) (reg 2)))\n')
+    # crowded, and 0 is no divisor: 9. In the first two it lies between the divisors
+    add(sixteen + '(put 2 (div (reg 1) (sub (mul 2 %s) 1)))\n' % bit)
+    add(sixteen + '(put 2 (rem (reg 1) (sub (mul 129 %s) 29)))\n' % bit)
+    add(sixteen + '(put 2 (div (reg 1) (add 1 %s)))\n' % bit)
+    add(sixteen + '(put 2 (rem (reg 1) (add 29 (mul 71 %s))))\n' % bit)
+    # 0 inside an interval of the divisors, and at either end of one; rem is not crowded there
+    for low, high in (('-0.001', '0.001'), ('0', '0.001'), ('-0.001', '0')):
+        ends = sixteen.replace('\n', '\n(in 3 %s %s)\n' % (low, high), 1)
+        add(ends + '(put 2 (div (reg 1) (add (reg 3) (mul 5 %s))))\n' % bit, lent_at(r0=500))
+        add(ends + '(put 2 (rem (reg 1) (add (reg 3) (mul 5 %s))))\n' % bit, lent_at(r0=500))
+    # intervals on the left that are no single numbers, and numbers that wrap around
+    wide = sixteen.replace('(in 0 -1 1)', '(in 0 -0.3 0.3)') + '(put 1 (add (reg 1) (reg 0)))\n'
+    add(wide + '(put 2 %s)\n' % divided)
+    add(wide + '(put 2 %s)\n' % left_over)
+    add(nine + '(put 1 (add (reg 1) 1152921504606846.976))\n(put 2 (div (reg 1) (reg 3)))\n', lent_at(r3=-1))
+    add(nine + '(put 1 (add (reg 1) -9223372036854775.808))\n(put 2 (rem (reg 1) (reg 3)))\n', lent_at(r3=-1))
+    # an inner crowded form and an outer zero divisor: 9
+    add(sixteen + '(put 2 (div %s (reg 0)))\n' % crowded)
+    add(sixteen + '(put 2 (rem %s (reg 0)))\n' % crowded)
+    add(sixteen + '(put 2 (div %s 0))\n' % crowded)
+    add(sixteen + '(put 2 (div 1 %s))\n' % crowded)
+    add(sixteen + '(put 2 (rem (reg 1) %s))\n' % crowded)
+    add(sixteen + '(put 2 (div (neg (not %s)) (reg 0)))\n' % crowded)
+    # an inner zero divisor and an outer crowded form: 20
+    add(sixteen + '(put 2 (add (div (reg 1) %s) %s))\n' % (bit, bit))
+    add(sixteen + '(put 2 (add %s (rem (reg 1) (mul 100 %s))))\n' % (bit, bit))
+    add(sixteen + '(put 2 (div (div (reg 1) %s) (add 1 %s)))\n' % (bit, bit))
+    # both at the inner form, and trouble at the outer one too: 20
+    add(sixteen + '(put 2 (div %s (reg 0)))\n' % divided)
+    add(sixteen + '(put 2 (add %s %s))\n' % (left_over, bit))
+    add(sixteen + '(put 2 (rem 1 %s))\n' % divided)
+    # both arguments in trouble: the left one's
+    for op in ('add', 'div', 'rem', 'and'):
+        add(sixteen + '(put 2 (%s %s %s))\n' % (op, crowded, zero))
+        add(sixteen + '(put 2 (%s %s %s))\n' % (op, zero, crowded))
+    more = sixteen + '(put 2 (mul 29 %s))\n(put 3 (mul 7 %s))\n(put 4 (mul 71 %s))\n' % (bit, bit, bit)
+    for both in ('(div (reg 1) (sub (reg 2) (reg 3)))', '(rem (reg 1) (add (reg 2) (reg 4)))'):
+        for other in (crowded, zero):
+            add(more + '(put 5 (add %s %s))\n' % (both, other))
+            add(more + '(put 5 (add %s %s))\n' % (other, both))
+    # the first line in trouble, of several
+    add(sixteen + '(put 2 %s)\n(put 3 %s)\n' % (divided, crowded))
+    add(sixteen + '(put 2 %s)\n(put 3 %s)\n' % (crowded, divided))
+    add(sixteen + '(put 2 %s)\n(hold 1 0 1)\n' % left_over)
+    add(sixteen + '(hold 1 0 1)\n(put 2 %s)\n' % left_over)
+    add(sixteen + '(put 2 %s)\n(in 2 0 1)\n' % divided)
+    # ranges that leave one number on the left and one divisor: a pass
+    add(sixteen.replace('(in 0 -1 1)', '(in 0 -1 0)') + '(put 2 %s)\n(put 3 %s)\n' % (divided, left_over), runs)
+    add(sixteen.split('\n', 1)[1] + '(put 2 %s)\n(put 3 %s)\n' % (divided, left_over))
+    # behind lines that pass: on the second line, behind every kind of line, and on the last of 256
+    flag = '(not (reg 0))'
+    add('(in 0 -0.001 0.001)\n(put 1 (div (add (add %s (mul 2 %s)) (mul 4 (add %s %s))) (reg 0)))\n' % (flag, flag, flag, flag), lent_at(r0=1))
+    add(sixteen + '(hold 1 0 30)\n(put 4 (div (reg 1) 3))\n(put 5 (rem (reg 4) 7))\n(put 1 (reg 1))\n(put 2 %s)\n(hold 0 -1 1)\n' % divided)
+    add(sixteen + '(hold 1 0 30)\n' * 250 + '(put 2 %s)\n' % left_over, stops)
+    # lent slices that are longer than needed, and too short
+    for lent, sets, work in ((20, 540, 8200), (15, 527, 8192), (16, 528, 8191)): add(sixteen + '(put 2 %s)\n' % divided, [500 + i for i in range(lent)], sets, work)
+
+
 # ---- writing
 
 KINDS = {'done': 0, 'pass': 0, 'stop': 1, 'refused': 2}
@@ -378,7 +460,7 @@ def record(i, text, lent, sets, work):
 def main():
     own = '(in 0 -1 2)\n(put 1 (mul (reg 0) 2.5))\n(hold 1 -3 5)\n'
     add(own, lent_at(r0=1500))
-    for part in (texts, damaged, depths, literals, orders, operations, stops, crowds, slices, wraps, rambles, pages): part()
+    for part in (texts, damaged, depths, literals, orders, operations, stops, crowds, slices, wraps, rambles, pages, hidden_zeros): part()
     seen = {}
     for text, lent, sets, work in CASES:
         v = rules.check(text, [0] * sets, [0] * work)[0]

@@ -20,7 +20,7 @@ use Rattle.meaning.specs.NumberIntervals.{Set, _∈_, here, Normal, set1, set2,
 use Rattle.meaning.specs.Sheet.{registers, Form, lit, reg, form1, form2, put, hold, Line, input, act, FineForm, FineAct, FineLine}
 use Rattle.meaning.specs.Text.{read}
 use Rattle.meaning.specs.Run.{worked}
-use Rattle.meaning.specs.Check.{Bands, at, inside, settle, give, setOf, checkAct, checkLine, startSets, check, checkText}
+use Rattle.meaning.specs.Check.{Bands, at, inside, settle, give, setOf, checkLine, startSets, check, checkText, setBy, lineBy, actBy, checkBy, textBy}
 use Rattle.meaning.specs.Demand2.{FlagIs, Demand2}
 use Rattle.meaning.specs.CheckSets.{SoundSet, SoundBands, stateOf, CheckSets}
 use Rattle.laws.proofs.Integers.{zarith, clash, by-test, if-no, eqZ-is}
@@ -50,9 +50,9 @@ pub record Settled (limit : ℕ) (s : Set) (flag : Bool) (s′ : Set) : Type 0 w
 pub settle-ok : (limit : ℕ) (s : Set) (flag : Bool) {s′ : Set} → settle limit s flag ≡ ok s′ → Settled limit s flag s′
 unfolding settle
 settle-ok limit s flag {s′} e =
-    let g = unless-ok (ltb limit (length s)) crowded _ e in
-    let k = unless-ok flag zeroDivisor (ok s) (g .1) in
-    subst (λ (x : Set). Settled limit s flag x) (ok-same (k .1)) (record { unflagged = k .0; keeps = λ m. m; normal = λ n. n; few = ltb-false limit (length s) (g .0) })
+    let k = unless-ok flag zeroDivisor _ e in
+    let g = unless-ok (ltb limit (length s)) crowded (ok s) (k .1) in
+    subst (λ (x : Set). Settled limit s flag x) (ok-same (g .1)) (record { unflagged = k .0; keeps = λ m. m; normal = λ n. n; few = ltb-false limit (length s) (g .0) })
 
 -- no flag: no member of the divisor is 0
 nonzero : {o : Op2} → FlagIs o → (a b : Set) {x y : ℤ} → Normal a → Normal b → x ∈ a → y ∈ b → flag2 o false a b ≡ false → eqZ y (pos 0) ≡ false
@@ -107,7 +107,7 @@ module _ (d : Demand2) where
 
     -- every form's set, inner forms too
     pub form-sound : (e : Form) (S : List Set) {s : Set} → All (SoundSet limit) S → FineForm e → setOf limit S e ≡ ok s → SoundSet limit s
-    unfolding setOf FineForm
+    unfolding setBy FineForm
     form-sound (lit z) S h w e = subst (SoundSet limit) (ok-same e) (only-sound z w)
     form-sound (reg r) S h w e = subst (SoundSet limit) (ok-same e) (all-get (SoundSet limit) S r (only (pos 0)) zero-sound h)
     form-sound (form1 o f) S h w e = let b = bind-ok (setOf limit S f) _ e in form1-sound o (b .0) (form-sound f S h w (b .1)) (b .2)
@@ -128,7 +128,7 @@ module _ (d : Demand2) where
     give-kept {B} r {s} h n = record { size = length-set (B .sets) r s ∙ h .size; sets-sound = all-set (SoundSet limit) (B .sets) r s n (h .sets-sound) }
 
     pub line-kept : (B : Bands) (l : Line) (B′ : Bands) → FineLine l → Kept B → checkLine limit B l ≡ ok B′ → Kept B′
-    unfolding checkLine checkAct FineLine FineAct
+    unfolding lineBy actBy FineLine FineAct
     line-kept B (input r lo hi) B′ w h e =
         subst Kept (ok-same e)
         (give-kept r h
@@ -142,7 +142,7 @@ module _ (d : Demand2) where
     kept-sound {B} h = record { size = h .size; each = λ r. all-get (SoundSet limit) (B .sets) r (only (pos 0)) zero-sound (h .sets-sound) }
 
   pub check-sets-of : CheckSets
-  unfolding check
+  unfolding checkBy
   check-sets-of limit t ls enough e n =
       kept-sound limit enough
       (work-keeps (checkLine limit) (Kept limit enough) FineLine (line-kept limit enough) 1 startSets (take n ls) (all-take FineLine n ls (read-fine t e)) (start-kept limit enough))
@@ -152,7 +152,7 @@ check-sets = check-sets-of demand2
 
 -- what a pass gives
 pub passed-sound : (limit : ℕ) (t : List ℕ) {n : ℕ} {B : Bands} → 1 ≤ limit → checkText limit t ≡ worked n (done B) → SoundBands limit B
-unfolding checkText
+unfolding textBy
 passed-sound limit t enough e =
     let w = judge-worked (check limit) (read t) e in
     subst (SoundBands limit) (ap stateOf (ap (check limit) (take-length (w .lines)) ∙ w .gives)) (check-sets limit t (w .lines) enough (w .reads) (length (w .lines)))

@@ -12,12 +12,12 @@ use Rattle.meaning.specs.NumberIntervals.{Set}
 use Rattle.meaning.specs.Sheet.{Line}
 use Rattle.meaning.specs.Text.{Read, sheet, noSheet, read}
 use Rattle.meaning.specs.Run.{verdict, Judged, refused, worked, judge}
-use Rattle.meaning.specs.Check.{Bands, check, checkText, intervalLimit}
+use Rattle.meaning.specs.Check.{Bands, check, checkText, intervalLimit, textBy}
 use Rattle.meaning.specs.Composing.{Composed, finding, refusal, textReturns, textLeaves, stoppedBy, byCheck, byRead, ifPassed, AsCheck}
 
 module _ (part : List Line → List Set → Composed) where
   pub passed-is : (t : List ℕ) (ls : List Line) (n : ℕ) (B : Bands) → read t ≡ sheet ls → checkText intervalLimit t ≡ worked n (done B) → ifPassed part t ≡ part ls (B .sets)
-  unfolding ifPassed checkText
+  unfolding ifPassed textBy
   passed-is t ls n B e k = ap (byRead part) e ∙ go (check intervalLimit ls) (sym (ap (judge (check intervalLimit)) e) ∙ k)
     where
       go : (o : Outcome Bands) → worked (length ls) o ≡ worked n (done B) → byCheck part ls o ≡ part ls (B .sets)
@@ -25,7 +25,7 @@ module _ (part : List Line → List Set → Composed) where
       go (stopped i j C) p = absurd (let z : _≡_ {A = ℕ} 0 1 = cc in let v : ⊥ = omega arith in v)
 
   pub refused-is : (t : List ℕ) (k l : ℕ) → checkText intervalLimit t ≡ refused k l → ifPassed part t ≡ refusal k l
-  unfolding ifPassed checkText
+  unfolding ifPassed textBy
   refused-is t k l e = go (read t) e
     where
       go : (x : Read) → judge (check intervalLimit) x ≡ refused k l → byRead part x ≡ refusal k l
@@ -33,7 +33,7 @@ module _ (part : List Line → List Set → Composed) where
       go (noSheet i j) p = let a : i ≡ k = cc in let b : j ≡ l = cc in (λ x. refusal (a x) (b x))
 
   pub stopped-is : (t : List ℕ) (n k l : ℕ) (B : Bands) → checkText intervalLimit t ≡ worked n (stopped k l B) → ifPassed part t ≡ stoppedBy k l
-  unfolding ifPassed checkText
+  unfolding ifPassed textBy
   stopped-is t n k l B e = go (read t) e
     where
       inner : (ls : List Line) (o : Outcome Bands) → worked (length ls) o ≡ worked n (stopped k l B) → byCheck part ls o ≡ stoppedBy k l

@@ -19,7 +19,7 @@ use Rattle.meaning.specs.NumberIntervals.{Set, _∈_, here, Normal, set1, set2,
 use Rattle.meaning.specs.Sheet.{registers, Form, lit, reg, form1, form2, Act, put, hold, Line, input, act, FineForm, FineAct, FineLine}
 use Rattle.meaning.specs.Text.{sheet, read}
 use Rattle.meaning.specs.Run.{valueOf, runAct, runLine, startNumbers, run, stateAfter, worked, judge, runText, Allowed, LentInside}
-use Rattle.meaning.specs.Check.{Bands, at, inside, give, setOf, checkAct, checkLine, startSets, check, checkText}
+use Rattle.meaning.specs.Check.{Bands, at, inside, give, setOf, checkAct, checkLine, startSets, check, setBy, actBy, lineBy, checkBy, textBy}
 use Rattle.meaning.specs.Demand2.{Demand2}
 use Rattle.meaning.specs.Demand3.{Members, SafeAt, Safe, Safety}
 use Rattle.laws.proofs.Integers.{between-within}
@@ -93,7 +93,7 @@ matched-members h = record { member = λ r b. paired-member (h .paired) r (subst
 
 module _ (d : Demand2) (limit : ℕ) where
   pub form-safe : (e : Form) {t : List ℤ} {S : List Set} {s : Set} → Paired t S → FineForm e → setOf limit S e ≡ ok s → Meets t e s
-  unfolding setOf valueOf FineForm bind
+  unfolding setBy valueOf FineForm bind
   form-safe (lit z) h w e = meets z refl (in-only z) (span-normal z z w w (≤ℤ-refl z)) (ok-same e)
   form-safe (reg r) {t} h w e = let g = paired-get h r in meets (getD t r (pos 0)) refl (g .0) (g .1) (ok-same e)
   form-safe (form1 o f) {t} {S} h w e =
@@ -116,7 +116,7 @@ module _ (d : Demand2) (limit : ℕ) where
   -- ---- lines
 
   pub act-safe : (B : Bands) (t : List ℤ) (a : Act) (B′ : Bands) → FineAct a → Matched t B → checkAct limit B a ≡ ok B′ → (t′ : List ℤ) × (runAct t a ≡ ok t′) × Matched t′ B′
-  unfolding checkAct runAct FineAct bind
+  unfolding actBy runAct FineAct bind
   act-safe B t (put r f) B′ w h e =
       let b = bind-ok (setOf limit (B .sets) f) _ e in
       let m = form-safe f (h .paired) (w .1) (b .1) in
@@ -127,7 +127,7 @@ module _ (d : Demand2) (limit : ℕ) where
 
   pub line-safe : (lent : List ℤ) (B : Bands) (t : List ℤ) (l : Line) (B′ : Bands) → FineLine l × Allowed lent l → Matched t B → checkLine limit B l ≡ ok B′
       → (t′ : List ℤ) × (runLine lent t l ≡ ok t′) × Matched t′ B′
-  unfolding checkLine runLine FineLine Allowed
+  unfolding lineBy runLine FineLine Allowed
   line-safe lent B t (input r lo hi) B′ w h e =
       let z = getD lent r (pos 0) in (
         set t r z,
@@ -159,14 +159,14 @@ module _ (d : Demand2) (limit : ℕ) (lent : List ℤ) (t : List ℕ) (ls : List
     matched : Matched state-there bands-there
 
   reached : (n : ℕ) → Reached n
-  unfolding check run
+  unfolding checkBy run
   reached n =
       let u = follows (checkLine limit) (runLine lent) Matched (λ l. FineLine l × Allowed lent l) (line-safe d limit lent) n 1 ls startSets (startNumbers lent)
       (all-both FineLine (Allowed lent) ls (read-fine t r) (i .inside ls r)) (start-matched lent) e in
       record { bands-there = u .0; state-there = u .1; checked = u .2; ran = u .3; matched = u .4 }
 
   safe-at : (n : ℕ) → n ≤ length ls → SafeAt limit lent t ls n
-  unfolding checkText runText
+  unfolding textBy runText
   safe-at n h =
       let u = reached n in
       let s : length (take n ls) ≡ n = omega (arith, length-take n ls) in
@@ -198,7 +198,7 @@ module _ (d : Demand2) (limit : ℕ) (lent : List ℤ) (t : List ℕ) (ls : List
       }
 
 pub safety-of : Demand2 → Safety
-unfolding checkText
+unfolding textBy
 safety-of d limit t n bands lent e i =
     let w = judge-worked (check limit) (read t) e in
     subst (λ (k : ℕ). Safe limit lent t k bands) (w .count) (all-safe d limit lent t (w .lines) (w .reads) (w .gives) i)

@@ -17,7 +17,7 @@ use Rattle.meaning.specs.NumberIntervals.{_∈_}
 use Rattle.meaning.specs.Sheet.{registers, Act, put, hold, Line, input, act}
 use Rattle.meaning.specs.Text.{Seen, Read, sheet, noSheet, prepend, Taken, thenRead, readOne, readLines, read, cut, shaped, splitLines, lines, nothingSeen}
 use Rattle.meaning.specs.Run.{valueOf, runAct, runLine, startNumbers, run, worked, judge, runText, Verdict, verdict, runCall, leftBy, runLent}
-use Rattle.meaning.specs.Check.{Bands, check, checkText, layout, setIn, setsNeed, workNeed, intervalLimit, checkCall, setsLeftBy, checkSets}
+use Rattle.meaning.specs.Check.{Bands, check, checkText, layout, setIn, setsNeed, workNeed, intervalLimit, checkCall, setsLeftBy, checkSets, textBy, checkBy, callBy}
 use Rattle.meaning.specs.CheckSets.{stateOf}
 use Rattle.meaning.specs.Demand3.{SafeAt}
 use Rattle.meaning.specs.Demand3Calls.{fulfilled, Enough, CallsSafeAt, CallsSafety}
@@ -61,7 +61,7 @@ unread t {k} {l} e p q = go (shaped (splitLines t)) e
 
 -- so a verdict of success is a pass
 fulfilled-done : {n : ℕ} (limit : ℕ) (t : List ℕ) → verdict (checkText limit t) ≡ fulfilled n → (B : Bands) × (checkText limit t ≡ worked n (done B))
-unfolding checkText check
+unfolding textBy checkBy
 fulfilled-done {n} limit t e = go (read t) refl e
   where
     go : (r : Read) → read t ≡ r → verdict (judge (check limit) r) ≡ fulfilled n → (B : Bands) × (judge (check limit) r ≡ worked n (done B))
@@ -77,7 +77,7 @@ fulfilled-done {n} limit t e = go (read t) refl e
 -- tests of the lengths
 module _ (t : List ℕ) (sets work : List ℤ) (h : Enough sets work) where
   pub check-call : checkCall t sets work ≡ checkText intervalLimit t
-  unfolding checkCall
+  unfolding callBy
   check-call = rw (le-ltb (length sets) setsNeed (h .sets-long), le-ltb (length work) workNeed (h .work-long))
 
   check-verdict : {n : ℕ} {B : Bands} → checkText intervalLimit t ≡ worked n (done B) → verdict (checkCall t sets work) ≡ fulfilled n

@@ -8,7 +8,7 @@ use Rattle.meaning.specs.Refusals.{holdBroken}
 use Rattle.meaning.specs.Number.{Between}
 use Rattle.meaning.specs.NumberIntervals.{Set, _∈_, here, there, Normal}
 use Rattle.meaning.specs.Outcome.{ok, stop}
-use Rattle.meaning.specs.Check.{at, inside, checkAct}
+use Rattle.meaning.specs.Check.{at, inside, actBy}
 use Rattle.meaning.specs.CheckSets.{Outside, HoldExact}
 use Rattle.laws.proofs.Integers.{zarith, never, by-test, and-both}
 use Rattle.laws.proofs.Members.{between}
@@ -45,7 +45,7 @@ all-inside lo hi s n h = by-test (inside lo s hi) (λ e. e) (λ e. let o = insid
 
 -- the line itself: a hold passes just when every member is inside, and 21 is its answer just when some member is outside
 pub hold-exact : HoldExact
-unfolding checkAct
+unfolding actBy
 hold-exact limit B r lo hi n =
     let s = at (B .sets) r in
     record {

@@ -43,3 +43,4 @@ pub mod Sums
 pub mod Troubles
 pub mod Work
 pub mod Wrapping
+pub mod ZeroFirst

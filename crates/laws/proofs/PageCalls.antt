@@ -13,7 +13,7 @@ use Rattle.meaning.specs.Lists.{over}
 use Rattle.meaning.specs.Outcome.{done}
 use Rattle.meaning.specs.Text.{read}
 use Rattle.meaning.specs.Run.{Verdict, verdict, Judged, worked}
-use Rattle.meaning.specs.Check.{Bands, check, checkText, setIn, setsNeed, workNeed, intervalLimit, setsLeftBy, checkSets}
+use Rattle.meaning.specs.Check.{Bands, check, checkText, setIn, setsNeed, workNeed, intervalLimit, setsLeftBy, checkSets, textBy}
 use Rattle.meaning.specs.Demand3Calls.{Enough}
 use Rattle.meaning.specs.Sheet.{registers}
 use Rattle.laws.proofs.Integers.{up, zarith, by-test, add-parts, sub-parts, one-part}
@@ -64,7 +64,7 @@ unfolding checkSets
 shown-by t sets work {n} {B} e h r k = ap (λ (j : Judged Bands). setIn (setsLeftBy sets j) r) (check-call t sets work h ∙ e) ∙ sets-shown t n B e sets r k
 
 pub calls-read-back : CallsReadBack
-unfolding page checkText
+unfolding page textBy
 calls-read-back t out e =
     let p = passes-then t out e in
     let B = p .1 in

@@ -18,7 +18,7 @@ use Rattle.meaning.specs.NumberIntervals.{Set, _∈_, Normal}
 use Rattle.meaning.specs.Sheet.{registers, Line}
 use Rattle.meaning.specs.Text.{Split, splitByte, splitLines, lines, Read, sheet, noSheet, read}
 use Rattle.meaning.specs.Run.{worked, judge}
-use Rattle.meaning.specs.Check.{Bands, at, check, checkText, intervalLimit}
+use Rattle.meaning.specs.Check.{Bands, at, check, intervalLimit, textBy}
 use Rattle.meaning.specs.Composing.{Composed, text, finding, refusal, stoppedBy, byCheck, byRead, ifPassed}
 use Rattle.meaning.specs.Listing.{listed}
 use Rattle.laws.proofs.Integers.{up, zarith, by-test, cond-case, if-yes, if-no, clash, add-parts, sub-parts, suc-parts, one-part, eq-out, ≤ℤ-trans}
@@ -291,7 +291,7 @@ intervals-most ls S few r (suc n) =
     omega (arith, own, intervals-most ls S few (suc r) n)
 
 pub page-most : PageMost
-unfolding page ifPassed stoppedBy checkText
+unfolding page ifPassed stoppedBy textBy
 page-most t x e = go (read t) refl e
   where
     no-text : {X : Type 0} (k l : ℕ) (b : Bool) → cond b (finding k l) (refusal k l) ≡ text x → X

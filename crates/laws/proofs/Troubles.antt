@@ -16,7 +16,7 @@ use Rattle.meaning.specs.Sheet.{registers, Form, lit, reg, form1, form2, Act, p
 use Rattle.meaning.specs.Reading.{Got, got, bad, lineOf, wholeLine, judged, readLine}
 use Rattle.meaning.specs.Text.{Seen, among, admit, Read, sheet, noSheet, prepend, Taken, readOne, thenRead, readLines, read, shaped, splitLines, nothingSeen, lines}
 use Rattle.meaning.specs.Run.{Judged, refused, worked, judge, verdict, valueOf, runAct, runLine, startNumbers, run, runText, runCall}
-use Rattle.meaning.specs.Check.{Bands, at, inside, settle, setOf, checkAct, checkLine, startSets, setsNeed, workNeed, intervalLimit, check, checkText, checkCall}
+use Rattle.meaning.specs.Check.{Bands, at, inside, settle, setOf, checkAct, checkLine, startSets, setsNeed, workNeed, intervalLimit, check, checkText, setBy, actBy, lineBy, textBy, checkBy, callBy}
 use Rattle.meaning.specs.Verdicts.{Verdicts}
 use Rattle.laws.proofs.Integers.{cond-case}
 
@@ -83,11 +83,11 @@ read-numbered t =
 settle-numbered : (limit : ℕ) (s : Set) (flag : Bool) → Numbered (settle limit s flag)
 unfolding settle
 settle-numbered limit s flag =
-    cond-case Numbered (ltb limit (length s)) (stop crowded) (cond flag (stop zeroDivisor) (ok s))
-    (λ t. omega arith) (λ t. cond-case Numbered flag (stop zeroDivisor) (ok s) (λ u. omega arith) (λ u. tt))
+    cond-case Numbered flag (stop zeroDivisor) (cond (ltb limit (length s)) (stop crowded) (ok s))
+    (λ t. omega arith) (λ t. cond-case Numbered (ltb limit (length s)) (stop crowded) (ok s) (λ u. omega arith) (λ u. tt))
 
 form-numbered : (limit : ℕ) (S : List Set) (e : Form) → Numbered (setOf limit S e)
-unfolding setOf
+unfolding setBy
 form-numbered limit S (lit z) = tt
 form-numbered limit S (reg r) = tt
 form-numbered limit S (form1 o e) = bind-numbered (setOf limit S e) _ (form-numbered limit S e) (λ a. settle-numbered limit _ _)
@@ -95,12 +95,12 @@ form-numbered limit S (form2 o e f) =
     bind-numbered (setOf limit S e) _ (form-numbered limit S e) (λ a. bind-numbered (setOf limit S f) _ (form-numbered limit S f) (λ b. settle-numbered limit _ _))
 
 act-numbered : (limit : ℕ) (B : Bands) (a : Act) → Numbered (checkAct limit B a)
-unfolding checkAct
+unfolding actBy
 act-numbered limit B (put r e) = bind-numbered (setOf limit (B .sets) e) _ (form-numbered limit (B .sets) e) (λ s. tt)
 act-numbered limit B (hold r lo hi) = cond-case Numbered (inside lo (at (B .sets) r) hi) (ok B) (stop holdBroken) (λ t. tt) (λ t. omega arith)
 
 check-line-numbered : (limit : ℕ) (B : Bands) (l : Line) → Numbered (checkLine limit B l)
-unfolding checkLine
+unfolding lineBy
 check-line-numbered limit B (input r lo hi) = tt
 check-line-numbered limit B (act a) = act-numbered limit B a
 
@@ -162,7 +162,7 @@ call-zero true j h e = absurd (let x : ⊥ = omega arith in x)
 call-zero false j h e = h e
 
 check-zero : (t : List ℕ) → verdict (checkText intervalLimit t) .number ≡ 0 → Fulfilled (checkText intervalLimit t)
-unfolding checkText check
+unfolding textBy checkBy
 check-zero t =
     judge-zero (check intervalLimit) (λ ls. work-numbered (checkLine intervalLimit) (check-line-numbered intervalLimit) 1 startSets ls) (read t) (read-numbered t)
 
@@ -171,7 +171,7 @@ unfolding runText run
 run-zero lent t = judge-zero (run lent) (λ ls. work-numbered (runLine lent) (run-line-numbered lent) 1 (startNumbers lent) ls) (read t) (read-numbered t)
 
 pub verdicts : Verdicts
-unfolding checkCall runCall
+unfolding callBy runCall
 verdicts = record {
   refused-read = λ t k n e. subst NumberedRead e (read-numbered t);
   zero-passes = λ t sets work. call-zero (ltb (length sets) setsNeed || ltb (length work) workNeed) (checkText intervalLimit t) (check-zero t);

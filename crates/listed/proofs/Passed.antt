@@ -17,7 +17,7 @@ use Rattle.meaning.specs.NumberIntervals.{Set, Normal}
 use Rattle.meaning.specs.Sheet.{registers, Line}
 use Rattle.meaning.specs.Text.{read}
 use Rattle.meaning.specs.Run.{Judged, refused, worked}
-use Rattle.meaning.specs.Check.{Bands, at, slotSize, slot, layout, countIn, setIn, setsNeed, intervalLimit, check, checkText, setsLeftBy}
+use Rattle.meaning.specs.Check.{Bands, at, slotSize, slot, layout, countIn, setIn, setsNeed, intervalLimit, check, checkText, setsLeftBy, textBy}
 use Rattle.meaning.specs.CheckSets.{SoundBands}
 use Rattle.meaning.specs.Composing.{Composed, finding, refusal, stoppedBy, ifPassed}
 use Rattle.meaning.specs.Listing.{listed}
@@ -75,7 +75,7 @@ pub record Passed (t : List ℕ) (l : List ℤ) (n : ℕ) : Type 0 where
   pub marks : (r : ℕ) → r < registers → getD (marksAfter t n) r false ≡ listed (sheet .lines) r
 
 passed : (t : List ℕ) {n : ℕ} {B : Bands} → checkText intervalLimit t ≡ worked n (done B) → (old : List ℤ) → length old ≡ setsNeed → Passed t (over (layout (B .sets)) old) n
-unfolding checkText
+unfolding textBy
 passed t {n} {B} e old size =
     let w = judge-worked (check intervalLimit) (read t) e in
     let s = passed-sound intervalLimit t (omega arith) e in

@@ -13,7 +13,7 @@ use Rattle.meaning.specs.NumberIntervals.{Set, Normal}
 use Rattle.meaning.specs.Sheet.{registers, Line}
 use Rattle.meaning.specs.Text.{Read, sheet, noSheet, read}
 use Rattle.meaning.specs.Run.{worked, judge}
-use Rattle.meaning.specs.Check.{Bands, at, intervalLimit, check, checkText}
+use Rattle.meaning.specs.Check.{Bands, at, intervalLimit, check, textBy}
 use Rattle.meaning.specs.CheckSets.{SoundBands}
 use Rattle.meaning.specs.Listing.{digitsBefore, decimal, decimalZ, troubleLine, intervalTexts, registerLine, registerLines, listed, passLine, outcomeText, readText, listing}
 use Rattle.laws.proofs.Integers.{cond-case}
@@ -100,7 +100,7 @@ unfolding passLine
 pass-most n h = omega (arith, length-append (decimal n) (bytes "\n"), decimal-most 3 n (omega arith) (omega arith))
 
 pub listing-most : (t : List ℕ) → length (listing t) ≤ longest
-unfolding listing readText outcomeText checkText
+unfolding listing readText outcomeText textBy
 listing-most t = go (read t) refl
   where
     go : (x : Read) → read t ≡ x → length (readText x) ≤ longest

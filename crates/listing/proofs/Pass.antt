@@ -11,7 +11,7 @@ use Rattle.meaning.specs.NumberIntervals.{Set}
 use Rattle.meaning.specs.Sheet.{registers, Line}
 use Rattle.meaning.specs.Text.{Read, sheet, noSheet, read}
 use Rattle.meaning.specs.Run.{worked, judge}
-use Rattle.meaning.specs.Check.{Bands, at, setIn, intervalLimit, check, checkText}
+use Rattle.meaning.specs.Check.{Bands, at, setIn, intervalLimit, check, textBy}
 use Rattle.meaning.specs.Listing.{troubleLine, registerLine, registerLines, listed, passLine, outcomeText, readText, listing}
 use Rattle.laws.proofs.Integers.{never}
 use Rattle.sheet_check.specs.Answer.{verdictOf, answerFor}
@@ -45,7 +45,7 @@ pass-text {t} {l} {n} p =
 module _ {t : List ℕ} {l : List ℤ} {a : Answer} (k : Told t l a) where
   -- the number and line of anything but a pass
   pub told-trouble : isPass a ≡ false → troubleLine (verdictOf a .number) (verdictOf a .line) ≡ listing t
-  unfolding checkText listing readText outcomeText
+  unfolding textBy listing readText outcomeText
   told-trouble z = go (read t) refl
     where
       inner : (ls : List Line) (o : Outcome Bands) → a ≡ answerFor (worked (length ls) o) → troubleLine (verdictOf a .number) (verdictOf a .line) ≡ outcomeText ls o

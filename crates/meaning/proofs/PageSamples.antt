@@ -8,7 +8,7 @@ use Rattle.meaning.specs.NumberIntervals.{contains, insert, rebuild, ofB
 use Rattle.meaning.specs.Sheet.{farForm, farAct, farLine, crossedAct, crossedLine}
 use Rattle.meaning.specs.Reading.{closed, begins, digits, number, scale, decimals, unsigned, literal, registerWith, head, start, arg, bounds, value, actOf, lineOf, wholeLine, judged, readLine}
 use Rattle.meaning.specs.Text.{splitLines, admit, readOne, readLines, read}
-use Rattle.meaning.specs.Check.{inside, settle, setOf, checkAct, checkLine, check}
+use Rattle.meaning.specs.Check.{inside, settle, checkBy, lineBy, actBy, setBy}
 use Rattle.meaning.specs.Listing.{digitsBefore, decimal, decimalZ, wroteTo, listed}
 use Rattle.meaning.specs.Composing.{textReturns, textLeaves, stoppedBy, ifPassed}
 use Rattle.meaning.specs.Page.{setRows, registerRows, pageRows, leftSet, rightSet, rowLine, rowsText, pageText, page}
@@ -16,7 +16,7 @@ use Rattle.meaning.specs.PageReadBack.{word, afterBlanks, readRow, readP
 use Rattle.meaning.specs.PageSamples.{PageSamples}
 
 pub page-samples : PageSamples
-unfolding readPage readRow word afterBlanks page pageText pageRows registerRows setRows rowsText rowLine leftSet rightSet textReturns textLeaves ifPassed stoppedBy over listed wroteTo decimalZ decimal digitsBefore check checkLine checkAct setOf settle inside read readLines readOne admit splitLines readLine judged wholeLine lineOf actOf value bounds arg start head registerWith literal unsigned decimals scale number digits begins closed farForm farAct farLine crossedAct crossedLine bind work contains insert rebuild ofBools someOf ltBools set1 set2 flag1 flag2 each without pieces split spread addPair leastCorner greatestCorner mulPair divPiece divPart divPair within window wrap
+unfolding readPage readRow word afterBlanks page pageText pageRows registerRows setRows rowsText rowLine leftSet rightSet textReturns textLeaves ifPassed stoppedBy over listed wroteTo decimalZ decimal digitsBefore checkBy lineBy actBy setBy settle inside read readLines readOne admit splitLines readLine judged wholeLine lineOf actOf value bounds arg start head registerWith literal unsigned decimals scale number digits begins closed farForm farAct farLine crossedAct crossedLine bind work contains insert rebuild ofBools someOf ltBools set1 set2 flag1 flag2 each without pieces split spread addPair leastCorner greatestCorner mulPair divPiece divPart divPair within window wrap
 page-samples = record {
   pump = refl;
   ordered = refl;

@@ -7,10 +7,10 @@ use Rattle.meaning.specs.NumberIntervals.{contains, insert, rebuild, ofB
 use Rattle.meaning.specs.Sheet.{farForm, farAct, farLine, crossedAct, crossedLine}
 use Rattle.meaning.specs.Reading.{closed, begins, digits, number, scale, decimals, unsigned, literal, registerWith, head, start, arg, bounds, value, actOf, lineOf, wholeLine, judged, readLine}
 use Rattle.meaning.specs.Text.{splitLines, admit, readOne, readLines, read}
-use Rattle.meaning.specs.Check.{inside, settle, setOf, checkAct, checkLine, check}
+use Rattle.meaning.specs.Check.{inside, settle, checkBy, lineBy, actBy, setBy}
 use Rattle.meaning.specs.Listing.{digitsBefore, decimal, decimalZ, troubleLine, wroteTo, listed, intervalTexts, registerLine, registerLines, passLine, outcomeText, readText, listing}
 use Rattle.meaning.specs.Samples.{Samples}
 
 pub samples : Samples
-unfolding listing readText outcomeText passLine registerLines registerLine intervalTexts listed wroteTo troubleLine decimalZ decimal digitsBefore check checkLine checkAct setOf settle inside read readLines readOne admit splitLines readLine judged wholeLine lineOf actOf value bounds arg start head registerWith literal unsigned decimals scale number digits begins closed farForm farAct farLine crossedAct crossedLine bind work contains insert rebuild ofBools someOf ltBools set1 set2 flag1 flag2 each without pieces split spread addPair leastCorner greatestCorner mulPair divPiece divPart divPair within window wrap
+unfolding listing readText outcomeText passLine registerLines registerLine intervalTexts listed wroteTo troubleLine decimalZ decimal digitsBefore checkBy lineBy actBy setBy settle inside read readLines readOne admit splitLines readLine judged wholeLine lineOf actOf value bounds arg start head registerWith literal unsigned decimals scale number digits begins closed farForm farAct farLine crossedAct crossedLine bind work contains insert rebuild ofBools someOf ltBools set1 set2 flag1 flag2 each without pieces split spread addPair leastCorner greatestCorner mulPair divPiece divPart divPair within window wrap
 samples = record { pump = refl; zero = refl; spaced = refl; broken = refl; nothing = refl; held = refl; ordered = refl; crowded = refl }

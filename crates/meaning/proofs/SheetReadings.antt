@@ -10,11 +10,11 @@ use Rattle.meaning.specs.Sheet.{farForm, farAct, farLine, crossedAct, cr
 use Rattle.meaning.specs.Reading.{closed, begins, digits, number, scale, decimals, unsigned, literal, registerWith, head, start, arg, form, bounds, value, actOf, lineOf, wholeLine, judged, readLine}
 use Rattle.meaning.specs.Text.{splitLines, lineAt, cut, admit, readOne, readLines, read}
 use Rattle.meaning.specs.Run.{valueOf, runAct, runLine, startNumbers, run, runText, runCall, runLent}
-use Rattle.meaning.specs.Check.{inside, settle, setOf, checkAct, checkLine, check, checkText, checkCall, slot, layout}
+use Rattle.meaning.specs.Check.{inside, settle, slot, layout, setBy, actBy, lineBy, checkBy, textBy, callBy}
 use Rattle.meaning.specs.SheetReadings.{SheetReadings}
 
 pub sheet-readings : SheetReadings
-unfolding over within window wrap negative sum quotient point1 point2 each without negPair pieces spread leastCorner greatestCorner divPiece divPart divPair contains insert rebuild union meetPair intersect asBools ofBools someOf ltBools set1 set2 flag1 flag2 flat intervals normal factor1 factor2 refusal refusal2 callReturns callOut callWork bind work farForm farAct farLine crossedAct crossedLine closed begins digits number scale decimals unsigned literal registerWith head start arg form bounds value actOf lineOf wholeLine judged readLine splitLines lineAt cut admit readOne readLines read valueOf runAct runLine startNumbers run runText runCall runLent inside settle setOf checkAct checkLine check checkText checkCall slot layout
+unfolding over within window wrap negative sum quotient point1 point2 each without negPair pieces spread leastCorner greatestCorner divPiece divPart divPair contains insert rebuild union meetPair intersect asBools ofBools someOf ltBools set1 set2 flag1 flag2 flat intervals normal factor1 factor2 refusal refusal2 callReturns callOut callWork bind work farForm farAct farLine crossedAct crossedLine closed begins digits number scale decimals unsigned literal registerWith head start arg form bounds value actOf lineOf wholeLine judged readLine splitLines lineAt cut admit readOne readLines read valueOf runAct runLine startNumbers run runText runCall runLent inside settle setBy actBy lineBy checkBy textBy callBy slot layout
 sheet-readings = record {
   many-before-odd = refl;
   odd = refl;
@@ -106,9 +106,14 @@ sheet-readings = record {
   over-the-limit = refl;
   sixteen-settled = refl;
   seventeen-crowded = refl;
-  zero-first = refl;
-  crowd-first = refl;
-  9-before-zero = refl;
+  left-zero = refl;
+  left-crowd = refl;
+  zero-before-9 = refl;
+  seventeen-by-zero = refl;
+  sixteen-by-zero = refl;
+  crowded-division = refl;
+  inner-9 = refl;
+  inner-20 = refl;
   refused-lent = refl;
   refused-sets = refl;
   refused-work = refl;

@@ -28,42 +28,65 @@ unfoldable pub inside : ℤ → Set → ℤ → Bool
 inside lo [] hi = true
 inside lo (i ∷ s) hi = leZ lo (i .lo) && (leZ (i .hi) hi && inside lo s hi)
 
--- a form's answer: 9 if it has over `limit` intervals, 20 if its flag is set, 9 before 20
-unfoldable pub settle : ℕ → Set → Bool → Res Set
-settle limit s flag = cond (ltb limit (length s)) (stop crowded) (cond flag (stop zeroDivisor) (ok s))
+-- how the answer of a form is settled, by its set and its flag
+abbrev pub Settling : Type 0
+Settling = Set → Bool → Res Set
+
+-- the check's way (01, "Sheet", whose "at one form 9 comes before 20" request (iii) turns round): 20 if the flag is set, else 9 if the set has over `limit` intervals
+unfoldable pub settle : ℕ → Settling
+settle limit s flag = cond flag (stop zeroDivisor) (cond (ltb limit (length s)) (stop crowded) (ok s))
 
 -- register r takes a set
 abbrev pub give : Bands → ℕ → Set → Bands
 give B r s = record { sets = set (B .sets) r s }
 
-module _ (limit : ℕ) where
-  -- a literal is the set of that one number, (reg R) the register's set, an OP form the answer of its set call; left argument, right, form
-  unfoldable pub setOf : List Set → Form → Res Set
-  setOf S (lit z) = ok (only z)
-  setOf S (reg r) = ok (at S r)
-  setOf S (form1 o e) = bind (setOf S e) (λ a. settle limit (set1 o a) (flag1 o false))
-  setOf S (form2 o e f) = bind (setOf S e) (λ a. bind (setOf S f) (λ b. settle limit (set2 o a b) (flag2 o false a b)))
-
-  -- put leaves E's set in R. hold alters nothing: 21 if R's set has a value outside
-  unfoldable pub checkAct : Bands → Act → Res Bands
-  checkAct B (put r e) = bind (setOf (B .sets) e) (λ s. ok (give B r s))
-  checkAct B (hold r lo hi) = cond (inside lo (at (B .sets) r) hi) (ok B) (stop holdBroken)
-
-  -- in puts the set [LO,HI] there
-  unfoldable pub checkLine : Bands → Line → Res Bands
-  checkLine B (input r lo hi) = ok (give B r (span lo hi))
-  checkLine B (act a) = checkAct B a
-
 -- every register starts at {0}
 abbrev pub startSets : Bands
 startSets = record { sets = replicate registers (only (pos 0)) }
 
--- a pass gives the sets after the last line
-unfoldable pub check : ℕ → List Line → Outcome Bands
-check limit ls = work (checkLine limit) 1 startSets ls
+-- ---- the check by any way of settling
 
-unfoldable pub checkText : ℕ → List ℕ → Judged Bands
-checkText limit t = judge (check limit) (read t)
+module _ (settles : Settling) where
+  -- a literal is the set of that one number, (reg R) the register's set, an OP form the answer of its set call; left argument, right, form
+  unfoldable pub setBy : List Set → Form → Res Set
+  setBy S (lit z) = ok (only z)
+  setBy S (reg r) = ok (at S r)
+  setBy S (form1 o e) = bind (setBy S e) (λ a. settles (set1 o a) (flag1 o false))
+  setBy S (form2 o e f) = bind (setBy S e) (λ a. bind (setBy S f) (λ b. settles (set2 o a b) (flag2 o false a b)))
+
+  -- put leaves E's set in R. hold alters nothing: 21 if R's set has a value outside
+  unfoldable pub actBy : Bands → Act → Res Bands
+  actBy B (put r e) = bind (setBy (B .sets) e) (λ s. ok (give B r s))
+  actBy B (hold r lo hi) = cond (inside lo (at (B .sets) r) hi) (ok B) (stop holdBroken)
+
+  -- in puts the set [LO,HI] there
+  unfoldable pub lineBy : Bands → Line → Res Bands
+  lineBy B (input r lo hi) = ok (give B r (span lo hi))
+  lineBy B (act a) = actBy B a
+
+  -- a pass gives the sets after the last line
+  unfoldable pub checkBy : List Line → Outcome Bands
+  checkBy ls = work lineBy 1 startSets ls
+
+  unfoldable pub textBy : List ℕ → Judged Bands
+  textBy t = judge checkBy (read t)
+
+-- ---- the check under a limit of intervals
+
+abbrev pub setOf : ℕ → List Set → Form → Res Set
+setOf limit = setBy (settle limit)
+
+abbrev pub checkAct : ℕ → Bands → Act → Res Bands
+checkAct limit = actBy (settle limit)
+
+abbrev pub checkLine : ℕ → Bands → Line → Res Bands
+checkLine limit = lineBy (settle limit)
+
+abbrev pub check : ℕ → List Line → Outcome Bands
+check limit = checkBy (settle limit)
+
+abbrev pub checkText : ℕ → List ℕ → Judged Bands
+checkText limit = textBy (settle limit)
 
 -- ---- the layout of the lent sets: per register how many intervals, then 32 for ends, unused ones 0
 
@@ -97,8 +120,11 @@ abbrev pub intervalLimit : ℕ
 intervalLimit = 16
 
 -- 3 where a lent slice is short, before all else
-unfoldable pub checkCall : List ℕ → List ℤ → List ℤ → Judged Bands
-checkCall t sets work = cond (ltb (length sets) setsNeed || ltb (length work) workNeed) (refused tooShort 0) (checkText intervalLimit t)
+unfoldable pub callBy : Settling → List ℕ → List ℤ → List ℤ → Judged Bands
+callBy settles t sets work = cond (ltb (length sets) setsNeed || ltb (length work) workNeed) (refused tooShort 0) (textBy settles t)
+
+abbrev pub checkCall : List ℕ → List ℤ → List ℤ → Judged Bands
+checkCall = callBy (settle intervalLimit)
 
 -- the sets are written on a pass only
 abbrev pub setsLeftBy : List ℤ → Judged Bands → List ℤ

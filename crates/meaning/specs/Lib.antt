@@ -26,6 +26,7 @@ pub mod Demand3Calls
 pub mod ReadLaws
 pub mod CheckSets
 pub mod Verdicts
+pub mod ZeroFirst
 pub mod PlainRun
 pub mod PageReadBack
 pub mod Marked

@@ -159,10 +159,16 @@ pub record SheetReadings : Type 0 where
   pub sixteen-settled : settle intervalLimit (intervals (singles 16)) false ≡ ok (intervals (singles 16))
   pub seventeen-crowded : settle intervalLimit (intervals (singles 17)) false ≡ stop 9
   -- left, right, form: with a limit of 1, (div 1 0) is 20 and (lt (reg 0) 1) is 9
-  pub zero-first : verdict (checkText 1 (bytes "(in 0 0 2)\n(put 1 (add (div 1 0) (lt (reg 0) 1)))\n")) ≡ record { number = 20; line = 2; count = 0 }
-  pub crowd-first : verdict (checkText 1 (bytes "(in 0 0 2)\n(put 1 (add (lt (reg 0) 1) (div 1 0)))\n")) ≡ record { number = 9; line = 2; count = 0 }
-  -- 9 comes before 20 at one form
-  pub 9-before-zero : settle 0 (only (pos 1)) true ≡ stop 9
+  pub left-zero : verdict (checkText 1 (bytes "(in 0 0 2)\n(put 1 (add (div 1 0) (lt (reg 0) 1)))\n")) ≡ record { number = 20; line = 2; count = 0 }
+  pub left-crowd : verdict (checkText 1 (bytes "(in 0 0 2)\n(put 1 (add (lt (reg 0) 1) (div 1 0)))\n")) ≡ record { number = 9; line = 2; count = 0 }
+  -- 20 comes before 9 at one form (02, (iii))
+  pub zero-before-9 : settle 0 (only (pos 1)) true ≡ stop 20
+  pub seventeen-by-zero : settle intervalLimit (intervals (singles 17)) true ≡ stop 20
+  pub sixteen-by-zero : settle intervalLimit (intervals (singles 16)) true ≡ stop 20
+  -- so 1/[−1,1], which has two intervals, is 20 under a limit of 1; an inner form's 9 still comes before its outer form's 20, and an inner form's 20 before its outer form's 9
+  pub crowded-division : verdict (checkText 1 (bytes "(in 0 -1 1)\n(put 1 (div 1 (reg 0)))\n")) ≡ record { number = 20; line = 2; count = 0 }
+  pub inner-9 : verdict (checkText 1 (bytes "(in 0 0 2)\n(put 1 (div (lt (reg 0) 1) 0))\n")) ≡ record { number = 9; line = 2; count = 0 }
+  pub inner-20 : verdict (checkText 1 (bytes "(in 0 0 2)\n(put 1 (lt (div 1 (reg 0)) 1))\n")) ≡ record { number = 20; line = 2; count = 0 }
   -- a refusal leaves the lent numbers of the run, and the sets and the work of the check; so does a finding the sets
   pub refused-lent : leftBy (pos 7 ∷ []) (refused 5 0) ≡ pos 7 ∷ []
   pub refused-sets : setsLeftBy (pos 7 ∷ []) (refused 5 0) ≡ pos 7 ∷ []

@@ -13,7 +13,7 @@ use Rattle.meaning.specs.Interval.{span, only}
 use Rattle.meaning.specs.NumberIntervals.{Set, set1, set2, flag1, flag2, intervals}
 use Rattle.meaning.specs.Sheet.{registers, Form, lit, reg, form1, form2, put, hold, input, act, FineForm, FineAct, FineLine}
 use Rattle.meaning.specs.Reading.{Got, got, bad, arg, tree, readLine}
-use Rattle.meaning.specs.Check.{Bands, at, inside, settle, give, setOf, checkAct, checkLine, slot, layout, setIn, intervalLimit}
+use Rattle.meaning.specs.Check.{Bands, at, inside, settle, give, setOf, slot, layout, setIn, intervalLimit, setBy, lineBy, actBy}
 use Rattle.meaning.specs.CheckSets.{SoundBands}
 use Rattle.laws.proofs.Flat.{intervals-flat}
 use Rattle.laws.proofs.Fine.{read-line-fine}
@@ -49,15 +49,15 @@ module _ {l : List ℤ} (B : Bands) (h : SoundBands intervalLimit B) (e : l ≡ 
   Same f v = FineForm f → (v ≡ valueOf (setOf intervalLimit (B .sets) f)) × SoundResult (setOf intervalLimit (B .sets) f)
 
   same-literal : (z : ℤ) → Same (lit z) (valueOf (ok (only (kept z))))
-  unfolding setOf FineForm
+  unfolding setBy FineForm
   same-literal z w = (ap (λ (x : ℤ). valueOf (ok (only x))) (kept-same z w), only-sound demand2 intervalLimit (omega arith) z w)
 
   same-register : (r : ℕ) → r < registers → Same (reg r) (valueOf (ok (setIn l r)))
-  unfolding setOf
+  unfolding setBy
   same-register r k w = (ap (λ (s : Set). valueOf (ok s)) (set-at shown r k), h .each r)
 
   same-one : (o : Op1) (f : Form) (v : SetV) → Same f v → Same (form1 o f) (answer1 o v)
-  unfolding setOf FineForm answer1
+  unfolding setBy FineForm answer1
   same-one o f v p w =
       let q = p w in (
         ap (λ (x : Res Set). valueOf (bind x (λ s. settle intervalLimit (set1 o s) (flag1 o false)))) (ap resultOf (q .0) ∙ result-back (setOf intervalLimit (B .sets) f) (q .1)),
@@ -65,7 +65,7 @@ module _ {l : List ℤ} (B : Bands) (h : SoundBands intervalLimit B) (e : l ≡ 
       )
 
   same-two : (o : Op2) (f g : Form) (v w : SetV) → Same f v → Same g w → Same (form2 o f g) (answer2 o v w)
-  unfolding setOf FineForm answer2
+  unfolding setBy FineForm answer2
   same-two o f g v w p p′ i =
       let q = p (i .0) in
       let q′ = p′ (i .1) in
@@ -97,11 +97,11 @@ module _ (s : List ℕ) {r : ℕ} {lo hi : ℤ} where
   hold-there e = read-line-fine s {l = act (hold r lo hi)} (sym e) .there
 
   in-is : ok (input r lo hi) ≡ readLine s → (B : Bands) → lineCheck B s ≡ ok (give B r (span lo hi))
-  unfolding lineCheck bind checkLine
+  unfolding lineCheck bind lineBy
   in-is e B = rw (sym e)
 
   hold-is : ok (act (hold r lo hi)) ≡ readLine s → (B : Bands) → lineCheck B s ≡ cond (inside lo (at (B .sets) r) hi) (ok B) (stop holdBroken)
-  unfolding lineCheck bind checkLine checkAct
+  unfolding lineCheck bind lineBy actBy
   hold-is e B = rw (sym e)
 
   pub in-worked : {before after : List ℤ} → ok (input r lo hi) ≡ readLine s → after ≡ given r (valueOf (ok (span lo hi))) before → Worked 0 after before s
@@ -145,7 +145,7 @@ module _ (s : List ℕ) (r j : ℕ) (e : lineFrom s (line.Put r j) ≡ readLine 
   put-there = put-fine .0
 
   put-is : (B : Bands) {x : Res Set} → setOf intervalLimit (B .sets) (read-put .0) ≡ x → lineCheck B s ≡ bind x (λ q. ok (give B r q))
-  unfolding lineCheck bind checkLine checkAct
+  unfolding lineCheck bind lineBy actBy
   put-is B d = rw (read-put .3) (ap (λ (x : Res Set). bind x (λ q. ok (give B r q))) d)
 
   module _ (before after : List ℤ) {v : SetV} (ev : v ≡ putValue (arg (values before) 7 (drop j s))) where

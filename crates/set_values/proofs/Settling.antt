@@ -40,13 +40,13 @@ module _ (work : List ℤ) (count : ℕ) (flag : Bool) (fits : count ≤ length 
   abbrev Judged : SetV → Type 0
   Judged v = v ≡ valueOf (settle intervalLimit (intervals ends) flag)
 
-  pub settle-crowded : 32 < count → Judged (valueOf (stop crowded))
+  pub settle-flagged : flag ≡ true → Judged (valueOf (stop zeroDivisor))
   unfolding settle
-  settle-crowded h = let e = lt-ltb intervalLimit (length (intervals ends)) (omega (arith, size)) in rw e
+  settle-flagged f = rw f
 
-  pub settle-flagged : count ≤ 32 → flag ≡ true → Judged (valueOf (stop zeroDivisor))
+  pub settle-crowded : flag ≡ false → 32 < count → Judged (valueOf (stop crowded))
   unfolding settle
-  settle-flagged h f = let e = le-ltb intervalLimit (length (intervals ends)) (omega (arith, size)) in rw (e, f)
+  settle-crowded f h = let e = lt-ltb intervalLimit (length (intervals ends)) (omega (arith, size)) in rw (f, e)
 
   padded-ends : over ends (replicate 32 (pos 0)) ≡ padded (intervals ends)
   unfolding over padded
@@ -58,7 +58,7 @@ module _ (work : List ℤ) (count : ℕ) (flag : Bool) (fits : count ≤ length 
   unfolding settle
   settle-fine h f {l} el =
       let e = le-ltb intervalLimit (length (intervals ends)) (omega (arith, size)) in
-      rw (e, f) (λ i. record { stop = 0; count = sym size i; ends = (el ∙ padded-ends) i })
+      rw (f, e) (λ i. record { stop = 0; count = sym size i; ends = (el ∙ padded-ends) i })
 
 -- ---- what is left
 

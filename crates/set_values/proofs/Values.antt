@@ -46,11 +46,11 @@ result-of h = ap resultOf (h .is) ∙ result-back (h .result) (h .sound)
 -- trouble has a number, 9 or 20
 settle-number : (s : Set) (flag : Bool) {k : ℕ} → settle intervalLimit s flag ≡ stop k → k ≡ 0 → ⊥
 unfolding settle
-settle-number s flag {k} e z = go (ltb intervalLimit (length s)) flag (e ∙ ap (λ (n : ℕ). stop n) z)
+settle-number s flag {k} e z = go flag (ltb intervalLimit (length s)) (e ∙ ap (λ (n : ℕ). stop n) z)
   where
-    go : (a b : Bool) → cond a (stop crowded) (cond b (stop zeroDivisor) (ok s)) ≡ stop 0 → ⊥
-    go true b e = let x : crowded ≡ 0 = cc in omega arith
-    go false true e = let x : zeroDivisor ≡ 0 = cc in omega arith
+    go : (a b : Bool) → cond a (stop zeroDivisor) (cond b (stop crowded) (ok s)) ≡ stop 0 → ⊥
+    go true b e = let x : zeroDivisor ≡ 0 = cc in omega arith
+    go false true e = let x : crowded ≡ 0 = cc in omega arith
     go false false e = let x : _≡_ {A = ℕ} 0 1 = cc in omega arith
 
 settled-sound : (x : Res Set) → ((s : Set) → x ≡ ok s → SoundSet intervalLimit s) → ((k : ℕ) → x ≡ stop k → k ≡ 0 → ⊥) → SoundResult x

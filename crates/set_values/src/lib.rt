@@ -1,4 +1,4 @@
-// A form's set by value, and the answer of an operation on such sets (01, "Sheet"): 9 if it has over 16 intervals, then 20 if a divisor may be 0.
+// A form's set by value, and the answer of an operation on such sets (01, "Sheet", as request (iii) amends it): 20 if a divisor may be 0, then 9 if it has over 16 intervals.
 // A value that stops has no set: its count and its ends are 0.
 use bools::BoolInterval;
 use cores::Core;
@@ -84,16 +84,16 @@ pub fn register_set(regs: &[i64], r: usize) -> SetV
     }
 }
 
-// What a form's answer leaves: 9 if it has over 16 intervals, then 20 if its flag is set.
+// What a form's answer leaves: 20 if its flag is set, then 9 if it has over 16 intervals.
 fn settle(work: &[i64], count: usize, flag: bool) -> SetV
     requires { ⌜ (count ≤ length (now work)) × (count % 2 ≡ 0) ⌝ }
     ensures { λ r. ⌜ r ≡ valueOf (settleOf intervalLimit (intervals (take count (now (work .entry)))) flag) ⌝ }
 {
-    if ENDS < count {
-        return stopped(CROWDED);
-    }
     if flag {
         return stopped(ZERO_DIVISOR);
+    }
+    if ENDS < count {
+        return stopped(CROWDED);
     }
     let mut ends = [0i64; ENDS];
     slices::copy_front(&mut ends, work, count);

@@ -17,7 +17,7 @@ use Rattle.meaning.specs.Sheet.{Line}
 use Rattle.meaning.specs.Reading.{readLine}
 use Rattle.meaning.specs.Text.{sheet, read}
 use Rattle.meaning.specs.Run.{verdict, Judged, refused, worked, judge}
-use Rattle.meaning.specs.Check.{Bands, checkLine, startSets, check, checkText, layout, setsNeed, workNeed, intervalLimit, checkCall, setsLeftBy, workLeftBy, checkSets, checkWork}
+use Rattle.meaning.specs.Check.{Bands, checkLine, startSets, check, checkText, layout, setsNeed, workNeed, intervalLimit, checkCall, setsLeftBy, workLeftBy, checkSets, checkWork, textBy, checkBy, callBy}
 use Rattle.meaning.specs.CheckSets.{SoundBands}
 use Rattle.laws.proofs.Integers.{never, by-test}
 use Rattle.laws.proofs.Work.{work-step}
@@ -73,7 +73,7 @@ pub record Going (t : List ℕ) (ls : List Line) (regs : List ℤ) (n at : ℕ) 
   pub same : checkText intervalLimit t ≡ worked (length ls) (work (checkLine intervalLimit) (n + 1) bands (drop n ls))
 
 pub going-start : (t : List ℕ) (ls : List Line) (regs : List ℤ) → read t ≡ sheet ls → regs ≡ layout (startSets .sets) → Going t ls regs 0 0
-unfolding checkText check
+unfolding textBy checkBy
 going-start t ls regs e s = record { walk = walk-start t e; bands = startSets; kept = start-kept demand2 intervalLimit enough; shows = s; same = rw e }
 
 line-of : (B : Bands) (b : List ℕ) {l : Line} {x : Res Bands} → readLine b ≡ ok l → lineCheck B b ≡ x → checkLine intervalLimit B l ≡ x
@@ -203,15 +203,15 @@ module _ (t : List ℕ) (sets work : List ℤ) where
   }
 
   short-sets : length sets < setsNeed → checkCall t sets work ≡ refused tooShort 0
-  unfolding checkCall
+  unfolding callBy
   short-sets h = rw (lt-ltb (length sets) setsNeed h)
 
   short-work : setsNeed ≤ length sets → length work < workNeed → checkCall t sets work ≡ refused tooShort 0
-  unfolding checkCall
+  unfolding callBy
   short-work k h = rw (le-ltb (length sets) setsNeed k, lt-ltb (length work) workNeed h)
 
   pub long-call : setsNeed ≤ length sets → workNeed ≤ length work → checkCall t sets work ≡ checkText intervalLimit t
-  unfolding checkCall
+  unfolding callBy
   long-call k h = rw (le-ltb (length sets) setsNeed k, le-ltb (length work) workNeed h)
 
   pub called-short-sets : length sets < setsNeed → Called t sets work (answer.Refused 3 0) sets work
@@ -222,7 +222,7 @@ module _ (t : List ℕ) (sets work : List ℤ) where
 
   module _ (k : setsNeed ≤ length sets) (h : workNeed ≤ length work) {j : Judgement} (ej : j ≡ judgementFor (read t)) where
     pub called-refused : {q l : ℕ} → j ≡ judgement.Refused q l → Called t sets work (answer.Refused q l) sets work
-    unfolding checkText
+    unfolding textBy
     called-refused {q} {l} e = call-is (refused q l) (long-call k h ∙ ap (judge (check intervalLimit)) (refused-read t ej e)) refl refl refl
 
     pub called-worked : {r : Answer} {sets′ work′ : List ℤ} → r ≡ answerFor (checkText intervalLimit t) → sets′ ≡ setsLeftBy sets (checkText intervalLimit t)

@@ -1,4 +1,4 @@
--- The tests are those of the definition, 9 before 20, and a fine answer is its ends and zeros behind them.
+-- The tests are those of the definition, 20 before 9, and a fine answer is its ends and zeros behind them.
 use mathlib.Core.Path.{_∙_}
 use native.Mathlib.Omega.{arith}
 use Rattle.set_values.proofs.Settling.{settle-crowded, settle-flagged, settle-fine}
@@ -12,7 +12,7 @@ stopped-requires c κs = search needs
 returns : tie.Need-returns
 returns c =
     let s = c .before .before in
-    c .stopped .ensures ∙ settle-crowded (s .args .work .now) (s .args .count) (s .args .flag) (s .pre .0) (s .pre .1) (omega arith)
+    c .stopped .ensures ∙ settle-flagged (s .args .work .now) (s .args .count) (s .args .flag) (s .pre .0) (s .pre .1) (c .before .if1 .taken)
 
 stopped-requires-2 : tie.Need-stopped-requires-2
 stopped-requires-2 c κs = search needs
@@ -20,7 +20,7 @@ stopped-requires-2 c κs = search needs
 returns-2 : tie.Need-returns-2
 returns-2 c =
     let s = c .before .before .before in
-    c .stopped2 .ensures ∙ settle-flagged (s .args .work .now) (s .args .count) (s .args .flag) (s .pre .0) (s .pre .1) (omega arith) (c .before .if2 .taken)
+    c .stopped2 .ensures ∙ settle-crowded (s .args .work .now) (s .args .count) (s .args .flag) (s .pre .0) (s .pre .1) (c .before .before .if1 .left) (omega arith)
 
 slice-aggregate-copy-front : tie.Need-slice-aggregate-copy-front
 slice-aggregate-copy-front c = search needs
@@ -31,7 +31,7 @@ copy-front-requires c κs = search needs
 returns-3 : tie.Need-returns-3
 returns-3 c =
     let s = c .before .before .before .before .before in
-    settle-fine (s .args .work .now) (s .args .count) (s .args .flag) (s .pre .0) (s .pre .1) (omega arith) (c .before .before .before .if2 .left) (c .before .copy-front .ensures)
+    settle-fine (s .args .work .now) (s .args .count) (s .args .flag) (s .pre .0) (s .pre .1) (omega arith) (c .before .before .before .before .if1 .left) (c .before .copy-front .ensures)
 
 pub settle-spec : {M : Type 1} → statement M
 settle-spec = tie.close (tie.spec stopped-requires returns stopped-requires-2 returns-2 slice-aggregate-copy-front copy-front-requires returns-3)
