@@ -4,6 +4,7 @@ use mathlib.Core.Bool.{Bool, true, false}
 use mathlib.Core.List.{List, [], _∷_}
 use Prim.Native.Nat.{ℕ, zero, suc, _+_, _-_, _*_, _/_, _^_, _≤_, _<_, min}
 use Prim.Native.Char.{code}
+use native.Mathlib.Nat.{mul-one, mul-assoc}
 use native.Mathlib.Omega.{arith}
 use native.Mathlib.Numerals.{add-one}
 use lib.Dec.{leb}
@@ -59,18 +60,47 @@ capped-is (d ∷ l) x =
 
 -- ---- the scale of 0 to 3 decimals
 
--- 1000, 100, 10, 1, and 1 where there are more
-pub scale-entry : (k : ℕ) → k < 4 → getD (1000 ∷ 100 ∷ 10 ∷ 1 ∷ []) k 0 ≡ scale k
+-- from i decimals on it is ten times that of one more, and from three on it is 1
+pub scale-step : (i : ℕ) → i < 3 → scale i ≡ 10 * scale (i + 1)
 unfolding scale
-scale-entry zero h = refl
-scale-entry (suc zero) h = refl
-scale-entry (suc (suc zero)) h = refl
-scale-entry (suc (suc (suc zero))) h = refl
-scale-entry (suc (suc (suc (suc k)))) h = absurd (omega arith)
+scale-step zero h = refl
+scale-step (suc zero) h = refl
+scale-step (suc (suc zero)) h = refl
+scale-step (suc (suc (suc i))) h = absurd (let z : ⊥ = omega arith in z)
 
-pub scale-past : (k : ℕ) → 4 ≤ k → 1 ≡ scale k
+pub scale-past : (k : ℕ) → 3 ≤ k → scale k ≡ 1
 unfolding scale
 scale-past k h = let e : 3 - k ≡ 0 = omega arith in rw e
+
+pub scale-most : (k : ℕ) → scale k ≤ 1000
+unfolding scale
+scale-most zero = omega arith
+scale-most (suc zero) = omega arith
+scale-most (suc (suc zero)) = omega arith
+scale-most (suc (suc (suc k))) = let e : 3 - suc (suc (suc k)) ≡ 0 = omega arith in rw e (omega arith)
+
+-- a loop that has come from d to i decimals, with the factor f
+pub record Scaling (d f i : ℕ) : Type 0 where
+  pub left : f * scale i ≡ scale d
+
+pub scaling-few : {d f i : ℕ} → Scaling d f i → f ≤ 1000
+unfolding scale
+scaling-few {d} {f} {i} s = bound i (omega (arith, s .left, scale-most d))
+  where
+    bound : (i : ℕ) → f * scale i ≤ 1000 → f ≤ 1000
+    bound zero h = omega arith
+    bound (suc zero) h = omega arith
+    bound (suc (suc zero)) h = omega arith
+    bound (suc (suc (suc i))) h = let e : 3 - suc (suc (suc i)) ≡ 0 = omega arith in let h′ : f * 1 ≤ 1000 = rw e at h in omega arith
+
+pub scaling-start : (d : ℕ) → Scaling d 1 d
+scaling-start d = record { left = omega arith }
+
+pub scaling-next : {d f i : ℕ} → i < 3 → Scaling d f i → Scaling d (f * 10) (i + 1)
+scaling-next {d} {f} {i} h s = record { left = mul-assoc f 10 (scale (i + 1)) ∙ ap (λ (x : ℕ). f * x) (sym (scale-step i h)) ∙ s .left }
+
+pub scaling-done : {d f i : ℕ} → 3 ≤ i → Scaling d f i → f ≡ scale d
+scaling-done {d} {f} {i} h s = sym (mul-one f) ∙ ap (λ (x : ℕ). f * x) (sym (scale-past i h)) ∙ s .left
 
 pub scale-pos : (k : ℕ) → 0 < scale k
 unfolding scale

@@ -114,13 +114,17 @@ fn number(a: u64, text: &[u8]) -> u64
     v
 }
 
-const SCALE: [u64; 4] = [1000, 100, 10, 1];
-
-// Thousandths of a unit of the last of d decimals.
+// Thousandths of a unit of the last of d decimals: ten to the power of three less d.
 fn scale(d: usize) -> u64
     ensures { λ r. ⌜ r ≡ scaleOf d ⌝ }
 {
-    if d < 4 { SCALE[d] } else { 1 }
+    let mut factor = 1;
+    let mut i = d;
+    while i < 3 {
+        factor *= 10;
+        i += 1;
+    }
+    factor
 }
 
 // v in thousandths, held at the cap.

@@ -1,20 +1,35 @@
--- `literals::scale` meets its contract: each entry of the table is the power of ten of its index.
-use Rattle.literals.proofs.Literals.{scale-entry, scale-past}
+-- Each turn multiplies by ten for one decimal that is not given, until three are counted.
+use Prim.Native.Nat.{_-_}
+use native.Mathlib.Omega.{arith}
+use Rattle.literals.proofs.Literals.{Scaling, scaling-few, scaling-start, scaling-next, scaling-done}
 use borrow.Author.Needs.{needs}
 use Rattle.literals.proofs.scale.Statement.{statement}
 use Rattle.literals.proofs.scale.Tie as tie
 
-mul-result : tie.Need-mul-result
-mul-result c = search needs
+abbrev Inv-loop : tie.InvT-loop
+Inv-loop d factor₀ i₀ factor i = Scaling d factor i
 
-array-read-result : tie.Need-array-read-result
-array-read-result c = search needs
+abbrev μ-loop : tie.MeasureT-loop
+μ-loop d factor₀ i₀ factor i = 3 - i
 
-returns : tie.Need-returns
-returns c = scale-entry (c .before .args .d) (c .if1 .taken)
+loop-holds : tie.Need-loop-holds Inv-loop μ-loop
+loop-holds c = scaling-start (c .args .d)
 
-returns-2 : tie.Need-returns-2
-returns-2 c = scale-past (c .before .args .d) (c .if1 .left)
+mul-factor : tie.Need-mul-factor Inv-loop μ-loop
+mul-factor c = omega (arith, scaling-few (c .before .loop .inv))
+
+add-i : tie.Need-add-i Inv-loop μ-loop
+add-i c = search needs
+
+loop-less : tie.Need-loop-less Inv-loop μ-loop
+loop-less c = omega arith
+
+loop-again : tie.Need-loop-again Inv-loop μ-loop
+loop-again c = scaling-next (c .loop-test .taken) (c .before .loop .inv)
+
+returns : tie.Need-returns Inv-loop μ-loop
+returns c = scaling-done (c .loop-test .left) (c .before .loop .inv)
 
 pub scale-spec : {M : Type 1} → statement M
-scale-spec = tie.close (tie.spec mul-result array-read-result returns returns-2)
+scale-spec =
+    tie.close (tie.spec Inv-loop μ-loop loop-holds mul-factor add-i loop-less loop-again returns)
