@@ -158,7 +158,8 @@ typedef struct {
 /* Reads a sheet without working it: 5 over the whole text, then line by line 6, 7, LO past HI (6), 8. */
 JUWENFO_ANSWERS juwenfo_verdict juwenfo_judge(const uint8_t *text, size_t text_len);
 
-/* Checks a sheet: 3 (sets shorter than JUWENFO_SETS or work than JUWENFO_WORK), the refusals of juwenfo_judge, then the lines in order: 20, 9, 21.
+/* Checks a sheet: 3 (sets shorter than JUWENFO_SETS or work than JUWENFO_WORK), the refusals of juwenfo_judge, then the lines in order: 20, 9, 21,
+ * at one form 20 before 9.
  * number 0 is a pass: the first JUWENFO_SETS numbers of sets hold the set of each register after the last line, unused ones 0.
  * Otherwise sets is as lent. After a pass, 9, 20 and 21 the first JUWENFO_WORK numbers of work are 0; after 3 and 5 to 8 work is as lent. */
 JUWENFO_ANSWERS juwenfo_verdict juwenfo_check(const uint8_t *text, size_t text_len, int64_t *sets, size_t sets_len, int64_t *work, size_t work_len);
