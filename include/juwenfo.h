@@ -13,12 +13,12 @@
  * What the caller sees to, for every call: each pointer is good for the length that follows it (NULL only with length 0), and what is behind a
  * pointer without const overlaps nothing else that is lent to the same call and is used by nobody else until it returns. docs/CALLERS.md says more.
  *
- * Numbers of refusals (1 to 10) and findings (20 to 22):
+ * Numbers of refusals (1 to 8 and 10) and findings (20 to 22); 9 is no longer given, as the check closes gaps instead:
  *    1  a set of odd length, or not normal                         6  a line outside the grammar, or LO past HI
  *    2  a set of more than 32 numbers                              7  a literal beyond MIN..MAX
  *    3  a lent slice shorter than its call needs                   8  an `in` after another kind, or a second one for a register
- *    4  an answer or a text longer than out                        9  a form's set has over 16 intervals (check)
- *    5  over 256 lines, a line over 120 bytes, last LF missing    10  an empty set (nearest, within)
+ *    4  an answer or a text longer than out                       10  an empty set (nearest, within)
+ *    5  over 256 lines, a line over 120 bytes, last LF missing
  *   20  a divisor may be 0 (check), or is 0 (run)     21  a hold is broken     22  a lent number outside its `in` (run)
  */
 #ifndef JUWENFO_H
@@ -27,7 +27,7 @@
 #include <stddef.h>
 #include <stdint.h>
 
-#define JUWENFO_VERSION "0.4.0" /* the one place of it: the callers in Rust and Python take it from here */
+#define JUWENFO_VERSION "0.5.0" /* the one place of it: the callers in Rust and Python take it from here */
 
 /* An answer that is dropped may be a refusal: compilers that know how warn of it. */
 #if (defined __cplusplus && __cplusplus >= 201703L) || (defined __STDC_VERSION__ && __STDC_VERSION__ >= 202311L)
@@ -158,10 +158,10 @@ typedef struct {
 /* Reads a sheet without working it: 5 over the whole text, then line by line 6, 7, LO past HI (6), 8. */
 JUWENFO_ANSWERS juwenfo_verdict juwenfo_judge(const uint8_t *text, size_t text_len);
 
-/* Checks a sheet: 3 (sets shorter than JUWENFO_SETS or work than JUWENFO_WORK), the refusals of juwenfo_judge, then the lines in order: 20, 9, 21,
- * at one form 20 before 9.
+/* Checks a sheet: 3 (sets shorter than JUWENFO_SETS or work than JUWENFO_WORK), the refusals of juwenfo_judge, then the lines in order: 20, 21.
+ * Where a form's set has over 16 intervals, gaps are closed until 16 remain: first the gap with the fewest missing numbers, the lowest of equals.
  * number 0 is a pass: the first JUWENFO_SETS numbers of sets hold the set of each register after the last line, unused ones 0.
- * Otherwise sets is as lent. After a pass, 9, 20 and 21 the first JUWENFO_WORK numbers of work are 0; after 3 and 5 to 8 work is as lent. */
+ * Otherwise sets is as lent. After a pass, 20 and 21 the first JUWENFO_WORK numbers of work are 0; after 3 and 5 to 8 work is as lent. */
 JUWENFO_ANSWERS juwenfo_verdict juwenfo_check(const uint8_t *text, size_t text_len, int64_t *sets, size_t sets_len, int64_t *work, size_t work_len);
 
 /* Runs a sheet on the numbers lent for its `in` lines: 3 (fewer than JUWENFO_LENT), the refusals of juwenfo_judge, then the lines in order: 20, 21, 22.
@@ -189,7 +189,7 @@ JUWENFO_ANSWERS juwenfo_text juwenfo_listing(const uint8_t *text, size_t text_le
 /* The page of a sheet that passes: a line of 72 characters for each interval of the registers with an `in` or a `put`, registers ascending, then starts.
  * Columns 1 to 3 hold the register's name, left-set; 5 to 24 the start, right-set; 25 and 26 two points; 27 to 46 the end, right-set; 48 to 67 how many members
  * the interval has, right-set; the others are blank. Starts and ends are in thousandths. The page may be empty: count 0.
- * A sheet that does not pass has the number and line that juwenfo_check gives it where its slices are long enough: 5 to 9, 20, 21. Never 3. */
+ * A sheet that does not pass has the number and line that juwenfo_check gives it where its slices are long enough: 5 to 8, 20, 21. Never 3. */
 JUWENFO_ANSWERS juwenfo_text juwenfo_page(const uint8_t *text, size_t text_len, uint8_t *out, size_t out_len);
 
 #ifdef __cplusplus

@@ -396,18 +396,22 @@ def run(text, lent):
     return ('done', len(lines)), state + lent[REGS:]
 
 # ---------------------------------------------------------------- check
-class Crowded(Exception):
-    pass
+def close(limit, A):
+    """A with gaps closed until `limit` intervals remain, for a limit of one or more: first the gap with the fewest missing numbers, the lowest of equals."""
+    while len(A) > limit:
+        missing = [after[0] - before[1] - 1 for before, after in zip(A, A[1:])]
+        i = missing.index(min(missing))    # the first place where it stands
+        A = A[:i] + [(A[i][0], A[i + 1][1])] + A[i + 2:]
+    return A
 
 def setof(e, sets):
-    """A form's set: left, right, form. At one form 20 comes before 9: 01 as request (iii) amends it."""
+    """A form's set: left, right, form. At each form 20 is judged on the answer of its set call, and then gaps are closed: 01 as requests (iii) and (v) amend it."""
     if e[0] == 'lit': return [(e[1], e[1])]
     if e[0] == 'reg': return sets[e[1]]
     xs = [setof(x, sets) for x in e[1:]]
     got, flag = value(e[0], xs[0], False, xs[1] if len(xs) > 1 else None)
     if flag: raise Stop(20)
-    if len(got) > LIMIT: raise Crowded
-    return got
+    return close(LIMIT, got)
 
 def check_sets(text):
     """('pass', N, sets) / ('stop', n, line) / ('refused', n, line), for long enough slices"""
@@ -420,7 +424,6 @@ def check_sets(text):
             elif line[0] == 'put': sets[line[1]] = setof(line[2], sets)
             elif any(s < line[2] or e > line[3] for s, e in sets[line[1]]): raise Stop(21)
     except Stop as s: return ('stop', s.args[0], n)
-    except Crowded: return ('refused', 9, n)
     return ('pass', len(lines), sets)
 
 def layout(sets):
@@ -434,7 +437,7 @@ def check(text, sets, work):
     """verdict, sets after, work after"""
     if len(sets) < 33 * REGS or len(work) < 8192: return ('refused', 3, 0), sets, work
     v = check_sets(text)
-    if v[0] == 'refused' and v[1] != 9: return v, sets, work
+    if v[0] == 'refused': return v, sets, work
     clean = [0] * 8192 + work[8192:]
     if v[0] == 'pass': return v[:2], layout(v[2]) + sets[33 * REGS:], clean
     return v, sets, clean
@@ -511,5 +514,10 @@ if __name__ == '__main__':
     assert within([MIN, MIN, 5, MAX], MAX, 2**64 - 1, [7] * 5) == (0, 4, False, [MIN, MIN, 5, MAX, 7])
     eight = b'(in 0 -1 1)\n(put 1 (le (reg 0) 0))\n(put 2 (add (reg 1) (mul 2 (reg 1))))\n(put 2 (add (reg 2) (mul 4 (add 1 (reg 1)))))\n'
     assert listing(eight + b'(put 3 (div (reg 2) (sub (mul 9 (reg 1)) (mul 7 (reg 1)))))\n') == b'stop 20 5\n'
-    assert listing(eight + b'(put 3 (div (reg 2) (sub (mul 9 (reg 1)) (add 1 (mul 7 (reg 1))))))\n') == b'refused 9 5\n'
+    singles = lambda *zs: [(z, z) for z in zs]
+    assert close(3, singles(0, 2, 4, 9)) == [(0, 2), (4, 4), (9, 9)] and close(2, singles(0, 2, 4, 9)) == [(0, 4), (9, 9)] and close(1, singles(0, 2, 4, 9)) == [(0, 9)]
+    assert close(3, singles(0, 5, 7, 9)) == [(0, 0), (5, 7), (9, 9)] and close(4, singles(0, 2, 4, 9)) == singles(0, 2, 4, 9)
+    assert close(2, singles(MIN, 0, MAX)) == [(MIN, MIN), (0, MAX)] and close(1, singles(MIN, MAX)) == [(MIN, MAX)]
+    assert listing(eight + b'(put 3 (div (reg 2) (sub (mul 9 (reg 1)) (add 1 (mul 7 (reg 1))))))\n').endswith(b'r3 -11000..-9000 -8000..-8000 -7000..-7000 -6000..-6000 -5000..-5000 '
+        b'-4000..-4000 -1375..-500 500..1375 4000..4000 5000..5000 6000..6000 7000..7000 8000..8000 9000..9000 10000..10000 11000..11000\n')
     print('marked values agree')

@@ -237,7 +237,7 @@ def crowds():
     add(sixteen + '(put 2 (add %s %s))\n' % (zero, crowded))
     add(sixteen + '(put 2 (add %s %s))\n' % (crowded, zero))
     add(sixteen + '(put 2 (le %s %s))\n' % (crowded, crowded))
-    # a divisor that may be 0, and the second form is crowded too: 20 comes before 9
+    # a divisor that may be 0, and the second form is crowded too
     add(sixteen + '(put 2 (div (reg 1) (mul 0.001 (le (reg 0) 0))))\n')
     add(sixteen + '(put 2 (div (add (reg 1) 1) (sub (mul 3 (le (reg 0) 0)) (le (reg 0) -0.5))))\n')
     add(sixteen + '(put 2 (rem (reg 1) (mul 7 (le (reg 0) 0))))\n')
@@ -366,7 +366,7 @@ def hidden_zeros():
     # a zero divisor alone, which leaves no interval
     add(sixteen + '(put 2 (div (reg 1) 0))\n')
     add(sixteen + '(put 2 (rem (reg 1) (reg 2)))\n')
-    # crowded, and 0 is no divisor: 9. In the first two it lies between the divisors
+    # crowded, and 0 is no divisor: gaps are closed. In the first two it lies between the divisors
     add(sixteen + '(put 2 (div (reg 1) (sub (mul 2 %s) 1)))\n' % bit)
     add(sixteen + '(put 2 (rem (reg 1) (sub (mul 129 %s) 29)))\n' % bit)
     add(sixteen + '(put 2 (div (reg 1) (add 1 %s)))\n' % bit)
@@ -382,7 +382,7 @@ def hidden_zeros():
     add(wide + '(put 2 %s)\n' % left_over)
     add(nine + '(put 1 (add (reg 1) 1152921504606846.976))\n(put 2 (div (reg 1) (reg 3)))\n', lent_at(r3=-1))
     add(nine + '(put 1 (add (reg 1) -9223372036854775.808))\n(put 2 (rem (reg 1) (reg 3)))\n', lent_at(r3=-1))
-    # an inner crowded form and an outer zero divisor: 9
+    # an inner crowded form and an outer zero divisor: 20
     add(sixteen + '(put 2 (div %s (reg 0)))\n' % crowded)
     add(sixteen + '(put 2 (rem %s (reg 0)))\n' % crowded)
     add(sixteen + '(put 2 (div %s 0))\n' % crowded)
@@ -397,7 +397,7 @@ def hidden_zeros():
     add(sixteen + '(put 2 (div %s (reg 0)))\n' % divided)
     add(sixteen + '(put 2 (add %s %s))\n' % (left_over, bit))
     add(sixteen + '(put 2 (rem 1 %s))\n' % divided)
-    # both arguments in trouble: the left one's
+    # one argument has a zero divisor, the other is crowded: 20 on either side
     for op in ('add', 'div', 'rem', 'and'):
         add(sixteen + '(put 2 (%s %s %s))\n' % (op, crowded, zero))
         add(sixteen + '(put 2 (%s %s %s))\n' % (op, zero, crowded))
@@ -406,7 +406,7 @@ def hidden_zeros():
         for other in (crowded, zero):
             add(more + '(put 5 (add %s %s))\n' % (both, other))
             add(more + '(put 5 (add %s %s))\n' % (other, both))
-    # the first line in trouble, of several
+    # the first finding of several, behind a crowded line too
     add(sixteen + '(put 2 %s)\n(put 3 %s)\n' % (divided, crowded))
     add(sixteen + '(put 2 %s)\n(put 3 %s)\n' % (crowded, divided))
     add(sixteen + '(put 2 %s)\n(hold 1 0 1)\n' % left_over)
@@ -424,6 +424,103 @@ def hidden_zeros():
     for lent, sets, work in ((20, 540, 8200), (15, 527, 8192), (16, 528, 8191)): add(sixteen + '(put 2 %s)\n' % divided, [500 + i for i in range(lent)], sets, work)
 
 
+# ---- crowded forms with their gaps closed: document 02 (v)
+
+BIT = '(le (reg 0) 0)'
+
+
+def sums(to, base, *steps):
+    """Lines that leave in register `to` the base with any of the steps added; r0 is an `in` around 0."""
+    return '(put %d %s)\n' % (to, base) + ''.join('(put %d (add (reg %d) (mul %s %s)))\n' % (to, to, step, BIT) for step in steps)
+
+
+def whole_and_cut(lines, crowded, lent=None):
+    """The sheet, and the sheet cut before its crowded line."""
+    add(lines + crowded, lent)
+    add(lines, lent)
+
+
+def closings():
+    start, runs = '(in 0 -1 1)\n', lent_at(r0=-500)
+    more = '(put 1 (add (reg 1) (mul %s ' + BIT + ')))\n'
+    sixteen = start + sums(1, '0', '1', '2', '4', '8')
+    # 16 intervals, of which no gap is closed, and 17, 18, 31 and 32, all gaps equal
+    add(start + sums(1, '-3', '1', '2', '4', '7') + more % 1, runs)
+    for steps in (1, 2, 15, 16): add(sixteen + more % steps, runs)
+    # many intervals: 256 of mul, 257 of add and of rem, 272 of div
+    add(start + sums(1, '1', '2', '4', '8', '16') + sums(2, '1000', '34', '68', '136', '272') + '(put 1 (mul (reg 1) (reg 2)))\n', runs)
+    high = start + '(in 2 9223372036854775.001 9223372036854775.003)\n' + sums(1, '(reg 2)', '0.005', '0.01', '0.02', '0.04')
+    whole_and_cut(high + sums(2, '0', '0.08', '0.16', '0.32', '0.64'), '(put 1 (add (reg 1) (reg 2)))\n', lent_at(r0=-500, r2=MAX - 805))
+    wide = start + '(in 2 38645.224 38645.508)\n' + sums(1, '(reg 2)', '3674.92', '3855.862', '5288.388', '1674.374')
+    add(wide + sums(2, '2319.833', '6135.031', '491.18', '8778.343', '1310.986') + '(put 1 (rem (reg 1) (reg 2)))\n', lent_at(r0=500, r2=38645300))
+    low = start + '(in 2 -9223372036854.797 -9223372036854.796)\n' + sums(1, '(reg 2)', '0.003', '0.006', '0.012', '0.024')
+    for base in ('0.001', '-0.031'): add(low + sums(3, base, '0.002', '0.004', '0.008', '0.016') + '(put 1 (div (reg 1) (reg 3)))\n', lent_at(r2=-9223372036854796))
+    # the lowest of equals: behind a wider gap, behind smaller ones that are all closed, in the middle, on a second crowded line
+    add(start + sums(1, '0', '7', '10', '20', '40') + more % 10, runs)
+    add(start + sums(1, '-80', '10', '20', '40', '80') + more % 13, runs)
+    add(start + sums(1, '-80', '10', '20', '40', '80') + '(put 1 (neg (add (reg 1) (mul 23 %s))))\n' % BIT, runs)
+    add(sixteen + '(put 1 (rem (mul 39 (reg 1)) (add 41 (mul 38 %s))))\n' % BIT, runs)
+    add(start + sums(1, '0', '1', '3', '9', '27') + more % 81 + more % 5, runs)
+    # gaps that grow from the lowest to the highest, and that shrink
+    for whole in ('1000', '-1000'): add(start + sums(1, '1', '1', '2', '4', '8') + '(put 1 (div (add %s (mul 100 %s)) (reg 1)))\n' % (whole, BIT), runs)
+    # one number missing, in all gaps, in some, and beside gaps of two
+    whole_and_cut(start + sums(1, '-0.005', '0.002', '0.004', '0.008', '0.016'), more % '0.002', runs)
+    add(start + sums(1, '0', '0.005', '0.01', '0.02', '0.04') + more % '0.002', runs)
+    add(start + sums(1, '0', '0.005', '0.01', '0.02', '0.04') + more % '0.003', runs)
+    # intervals of several sizes: the fewest missing numbers are between the longest ones
+    widths = start + '(in 2 1 1.01)\n'
+    whole_and_cut(widths + sums(1, '1', '1', '2', '4', '8'), '(put 1 (mul (reg 1) (mul (reg 2) (add 1 %s))))\n' % BIT, lent_at(r0=-1, r2=1005))
+    add(widths + sums(1, '-16', '1', '2', '4', '8') + '(put 1 (mul (reg 1) (mul (reg 2) (add 1 %s))))\n' % BIT, lent_at(r0=-1, r2=1005))
+    add(widths + sums(1, '-7.5', '1', '2', '4', '8') + '(put 1 (mul (reg 1) (mul (reg 2) (add 1 (mul 2 %s)))))\n' % BIT, lent_at(r0=-1, r2=1005))
+    # both ends of the range: MIN and MAX are no neighbours, and the gap between the outermost intervals has nearly 2^64 numbers
+    add(start + sums(1, '9223372036854775.791', '0.002', '0.004', '0.008', '0.016') + more % '0.002', runs)
+    for base in ('786', '762'): add(start + sums(1, '(add 9223372036854775.%s (mul 0.001 %s))' % (base, BIT), '0.003', '0.006', '0.012', '0.024'), runs)
+    add(start + sums(1, '9223372036854775.671', '0.009', '0.018', '0.036', '0.072') + more % '0.138', runs)
+    # a gap of 2^63 + 807 numbers, and of 2^63 - 193; gaps near 2^60, equal ones and such that differ by a few numbers
+    for far in ('9223372036854.806', '9223372036854.805'):
+        add(start + sums(1, '-9223372036854775.808', '2', '4', '8', '16') + '(put 1 (add (reg 1) (div (mul %s %s) 0.001)))\n' % (far, BIT), runs)
+    steps = ['(div (mul %s %s) 0.001)' % (t, BIT) for t in ('1085102592571.15', '2170205185142.3', '4340410370284.6', '8680820740569.2')]
+    spaced = start + '(put 1 -9223372036854775.808)\n' + ''.join('(put 1 (add (reg 1) %s))\n' % step for step in steps)
+    whole_and_cut(spaced, '(put 1 (add (reg 1) %s))\n' % steps[0], runs)
+    for apart in ('0.01', '0.004'): add(spaced + '(put 1 (div (reg 1) (sub 0.003 (mul %s %s))))\n' % (apart, BIT), runs)
+    # 17 of 16 by neg and abs
+    least = start + '(in 2 -9223372036854775.808 -9223372036854775.8)\n' + sums(1, '(reg 2)', '2', '4', '8', '16')
+    for form in ('(neg (reg 1))', '(abs (reg 1))', '(neg (neg (reg 1)))', '(sub (abs (reg 1)) (neg (reg 2)))'): add(least + '(put 1 %s)\n' % form, lent_at(r0=-500, r2=MIN + 5))
+    # each operation crowded under another
+    crowded = '(add (reg 1) %s)' % BIT
+    for form in ('(neg (add (reg 1) %s))', '(abs (sub %s (reg 1)))', '(sub 0 (mul (reg 1) (add 3 %s)))', '(mul -2 (div (reg 1) (add 1 %s)))',
+                 '(div (rem (mul 39 (reg 1)) (add 41 (mul 38 %s))) -0.5)', '(rem (add (reg 1) %s) 1.5)', '(rem 100 (add 1 (add (reg 1) %s)))'): add(sixteen + '(put 1 %s)\n' % (form % BIT), runs)
+    add(sixteen + '(put 1 (add %s (mul 3.5 %s)))\n' % (crowded, BIT), runs)
+    add(sixteen + '(put 1 (sub (mul 3 %s) %s))\n' % (crowded, crowded), runs)
+    odd = start + sums(1, '-0.001', '0.002', '0.004', '0.008', '0.016')
+    inner = '(add (reg 1) (mul 0.002 %s))' % BIT
+    for form in ('(not %s)', '(and %s 1)', '(or 0 %s)', '(ne %s 0)', '(abs %s)'): add(odd + '(put 1 %s)\n' % (form % inner), runs)
+    add(odd + '(put 1 (le %s 0))\n(put 2 (lt 0 (reg 1)))\n' % inner, runs)
+    # divisors that have 0 by closing alone, and divisors that just have not
+    for op in ('div', 'rem'):
+        add(odd + '(put 2 (%s 7 %s))\n' % (op, inner), runs)
+        add(odd.replace('-0.001', '-0.003') + '(put 2 (%s 7 %s))\n' % (op, inner), runs)
+    add(odd + '(put 1 %s)\n(put 2 (rem 7 (reg 1)))\n' % inner, runs)
+    add(odd + '(put 2 (rem 7 (reg 1)))\n', runs)
+    add(odd.replace('-0.001', '-0.003') + more % '0.004' + '(put 1 (div 7 (reg 1)))\n', runs)
+    # crowded, and a divisor may be 0, at one form and at its inner form
+    add(sixteen + '(put 1 (div (add 1 (reg 1)) (reg 1)))\n', runs)
+    add(odd + '(put 1 (div (reg 1) %s))\n' % inner, runs)
+    # a hold that a closed gap breaks, one that just passes, and holds at both ends of the closed set
+    for between in ('0.5', '2.5'): add(sixteen + more % 1 + '(put 2 (ne (reg 1) %s))\n(hold 2 1 1)\n' % between, runs)
+    for base in ('-0.001', '-0.003'): add(odd.replace('-0.001', base) + more % '0.002' + '(put 2 (abs (reg 1)))\n(hold 2 0.001 0.04)\n', runs)
+    add(start + sums(1, '0', '2', '4', '8', '16') + more % 2 + '(put 2 (rem (reg 1) 2))\n(hold 2 0 0)\n', runs)
+    add(start + sums(1, '0', '2', '4', '8', '16') + '(put 2 (rem (reg 1) 2))\n(hold 2 0 0)\n', runs)
+    for ends in ('0 16', '0.001 16', '0 15.999'): add(sixteen + more % 1 + '(hold 1 %s)\n' % ends, runs)
+    # gaps closed again and again: on later lines, at three forms of one line, on 250 lines
+    add(sixteen + more % 1 + more % 20 + '(put 1 (neg (reg 1)))\n' + more % 0.3 + more % 7 + more % 100, runs)
+    add(sixteen + '(put 1 (sub (mul 1000 (mul (reg 1) (reg 1))) (add (reg 1) (mul 16 (reg 1)))))\n', runs)
+    add(sixteen + '(put 1 (mul (add (reg 1) (mul 16 (reg 1))) (add 1 (sub (mul 16 (reg 1)) (reg 1)))))\n', runs)
+    add(sixteen + '(put 2 (add (reg 1) (mul 3.5 %s)))\n' % BIT * 250, runs)
+    # lent slices that are longer than needed, and too short
+    for lent, sets, work in ((20, 540, 8200), (15, 527, 8192), (16, 528, 8191)): add(sixteen + more % 1, [500 + i for i in range(lent)], sets, work)
+
+
 # ---- writing
 
 KINDS = {'done': 0, 'pass': 0, 'stop': 1, 'refused': 2}
@@ -439,7 +536,7 @@ def record(i, text, lent, sets, work):
     judged = ('refused',) + read if isinstance(read, tuple) else ('done', len(read))
     ran, left = rules.run(text, lent)
     checked, sets_after, work_after = rules.check(text, [-3] * sets, [-4] * work)
-    cleared = 8192 if checked[0] != 'refused' or checked[1] == 9 else 0
+    cleared = 8192 if checked[0] != 'refused' else 0
     assert work_after == [0] * cleared + [-4] * (work - cleared) and (checked[0] == 'pass' or sets_after == [-3] * sets)
     pairs = [(n, z) for n, z in enumerate(sets_after[:528]) if z != 0] if checked[0] == 'pass' else []
     listed = rules.listing(text)
@@ -460,7 +557,7 @@ def record(i, text, lent, sets, work):
 def main():
     own = '(in 0 -1 2)\n(put 1 (mul (reg 0) 2.5))\n(hold 1 -3 5)\n'
     add(own, lent_at(r0=1500))
-    for part in (texts, damaged, depths, literals, orders, operations, stops, crowds, slices, wraps, rambles, pages, hidden_zeros): part()
+    for part in (texts, damaged, depths, literals, orders, operations, stops, crowds, slices, wraps, rambles, pages, hidden_zeros, closings): part()
     seen = {}
     for text, lent, sets, work in CASES:
         v = rules.check(text, [0] * sets, [0] * work)[0]

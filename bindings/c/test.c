@@ -166,6 +166,16 @@ static void listings(void) {
     writes(juwenfo_listing, "x\n", 0, 4, 0, "", "listing of a refusal, longer than out");
 }
 
+/* Seventeen single numbers on line 5: the lowest of the gaps, which are all equal, is closed. */
+static const char *const crowded = "(in 0 0 9)\n(put 1 (lt (reg 0) 5))\n(put 2 (add (reg 1) (mul 2 (reg 1))))\n(put 3 (add (reg 2) (mul 4 (reg 2))))\n(put 4 (add (reg 3) (reg 1)))\n";
+
+static void closed(void) {
+    static int64_t sets[JUWENFO_SETS], room[JUWENFO_WORK];
+    juwenfo_verdict v = juwenfo_check((const uint8_t *)crowded, strlen(crowded), sets, JUWENFO_SETS, room, JUWENFO_WORK);
+    const int64_t *four = sets + 4 * JUWENFO_SLOT;
+    expect(v.number == 0 && v.count == 5 && four[0] == 16 && four[1] == 0 && four[2] == 1000 && four[3] == 2000 && four[4] == 2000 && four[32] == 16000, "check, a gap closed");
+}
+
 /* Sixteen registers with 16 intervals each. */
 #define COPY(r) "(put " #r " (reg 1))\n"
 static const char *const most = "(in 0 -1 1)\n(put 1 (mul 2 (le (reg 0) 0)))\n(put 1 (add (reg 1) (mul 4 (le (reg 0) 0))))\n"
@@ -199,6 +209,7 @@ int main(void) {
     sets();
     members();
     sheets();
+    closed();
     listings();
     pages();
     printf("%d faults\n", faults);

@@ -17,7 +17,7 @@ MIN, MAX, ONE = -(1 << 63), (1 << 63) - 1, 1000
 REGISTERS, SLOT, WORK = 16, 33, 8192
 LISTING, PAGE = 11081, 18688  # bytes that hold any listing, and any page
 
-WORDS = {  # each number that there is, with what it means: 1 to 10 are refusals, 20 to 22 findings
+WORDS = {  # each number that there is, with what it means: 1 to 8 and 10 are refusals, 20 to 22 findings
     1: "a set has an odd number of ends, or is not sorted with a gap between its intervals",
     2: "a set has over 16 intervals",
     3: "a lent slice is too short to work in",
@@ -26,7 +26,6 @@ WORDS = {  # each number that there is, with what it means: 1 to 10 are refusals
     6: "the line is outside the grammar, or its LO is past its HI",
     7: "a number is beyond MIN..MAX",
     8: "an `in` behind another kind of line, or a second one for a register",
-    9: "a form's set has over 16 intervals",
     10: "the set is empty",
     20: "a divisor may be 0, or is 0 in a run",
     21: "a held register may have a value outside, or has one in a run",
@@ -46,7 +45,7 @@ class Refused(Exception):
 
 
 class Trouble(Exception):
-    """A sheet's refusal (5 to 9) or finding (20 to 22), and its line; of a run that stops also the 16 registers before that line."""
+    """A sheet's refusal (5 to 8) or finding (20 to 22), and its line; of a run that stops also the 16 registers before that line."""
 
     def __init__(self, number, line, registers=()):
         super().__init__(number, line, registers)

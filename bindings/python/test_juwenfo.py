@@ -88,6 +88,10 @@ class Calls(unittest.TestCase):
         self.assertEqual((e.exception.number, e.exception.line, e.exception.registers[:3]), (21, 3, [5000, 2000, 0]))
         self.assertRaises(ValueError, j.run, SHEET, [0] * 17)
 
+    def test_closed_gaps(self):
+        sheet = b"(in 0 0 9)\n(put 1 (lt (reg 0) 5))\n(put 2 (add (reg 1) (mul 2 (reg 1))))\n(put 3 (add (reg 2) (mul 4 (reg 2))))\n(put 4 (add (reg 3) (reg 1)))\n"
+        self.assertEqual(j.check(sheet)[3:5], [[(1000 * i, 1000 * i) for i in range(16)], [(0, 1000)] + [(1000 * i, 1000 * i) for i in range(2, 17)]])
+
     def test_listings(self):
         self.assertEqual(j.listing(SHEET), b"pass 3\nr0 -1000..2000\nr1 -2500..5000\n")
         self.assertEqual([j.listing(b""), j.listing(b"x"), j.listing(b"(hold 0 1 2)\n"), j.listing(b"\0\n")], [b"pass 0\n", b"refused 5 0\n", b"stop 21 1\n", b"refused 6 1\n"])
@@ -120,7 +124,7 @@ class Calls(unittest.TestCase):
         self.assertEqual(written(j._page, text, j.PAGE - 1)[:3], (4, 0, 0))
 
     def test_words_and_version(self):
-        self.assertEqual(list(j.WORDS), [*range(1, 11), 20, 21, 22])
+        self.assertEqual(list(j.WORDS), [*range(1, 9), 10, 20, 21, 22])
         for number, words in j.WORDS.items():
             self.assertEqual(str(j.Trouble(number, 3)), "number %d at line 3: %s" % (number, words))
             self.assertEqual(str(j.Refused(number)), "refused with %d: %s" % (number, words))

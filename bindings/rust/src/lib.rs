@@ -25,7 +25,7 @@ pub const LISTING: usize = 11081;
 /// Bytes that hold any page.
 pub const PAGE: usize = 18688;
 
-/// A refusal (3 to 9) or a finding (20 to 22), and its line; the line is 0 for 3, 4 and 5.
+/// A refusal (3 to 8) or a finding (20 to 22), and its line; the line is 0 for 3, 4 and 5.
 #[derive(Clone, Copy, Debug, PartialEq, Eq)]
 pub struct Trouble {
     /// The number of the refusal or finding.
@@ -86,7 +86,7 @@ pub fn listing(text: &[u8], out: &mut [u8]) -> Result<usize, Trouble> {
 }
 
 /// The page of a sheet that passes at the front of `out`: how many bytes it has, 73 for each interval. The rest of `out` is as lent. Trouble is that of the
-/// check (5 to 9, 20, 21), or else 4, where the page is longer than `out`, and then all of `out` is as lent; [`PAGE`] bytes are always enough.
+/// check (5 to 8, 20, 21), or else 4, where the page is longer than `out`, and then all of `out` is as lent; [`PAGE`] bytes are always enough.
 pub fn page(text: &[u8], out: &mut [u8]) -> Result<usize, Trouble> {
     written(unsafe { sys::juwenfo_page(text.as_ptr(), text.len(), out.as_mut_ptr(), out.len()) })
 }

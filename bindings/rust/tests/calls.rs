@@ -149,6 +149,14 @@ fn sheets() {
     assert_eq!(run(SHEET, &mut lent[..15]), Err(Trouble { number: 3, line: 0 }));
 }
 
+#[test]
+fn closed_gaps() {
+    let sheet = b"(in 0 0 9)\n(put 1 (lt (reg 0) 5))\n(put 2 (add (reg 1) (mul 2 (reg 1))))\n(put 3 (add (reg 2) (mul 4 (reg 2))))\n(put 4 (add (reg 3) (reg 1)))\n";
+    let (mut sets, mut work) = (vec![OLD; SETS], vec![OLD; WORK]);
+    assert_eq!(check(sheet, &mut sets, &mut work), Ok(5));
+    assert_eq!((ends(&sets, 3).len(), ends(&sets, 4).len(), &ends(&sets, 4)[..4]), (32, 32, &[0, 1000, 2000, 2000][..]));
+}
+
 const SHORT: Trouble = Trouble { number: 4, line: 0 };
 
 #[test]
@@ -204,7 +212,7 @@ fn longest_page() {
 
 #[test]
 fn words_and_version() {
-    let numbers: Vec<u8> = (1..=10).chain(20..=22).collect();
+    let numbers: Vec<u8> = (1..=8).chain([10]).chain(20..=22).collect();
     assert_eq!(WORDS.map(|w| w.0), numbers[..]);
     for (number, words) in WORDS {
         assert_eq!(Trouble { number, line: 3 }.to_string(), format!("number {number} at line 3: {words}"));

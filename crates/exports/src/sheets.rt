@@ -21,7 +21,7 @@ pub extern "C" fn juwenfo_run(text: &[u8], lent: &mut [i64]) -> Verdict
     for_run(run::run(text, lent))
 }
 
-// 3 where sets or work is shorter than the check needs, then the refusals of the text, then the lines in order: 20, 9, 21; at one form 20 comes before 9.
+// 3 where sets or work is shorter than the check needs, then the refusals of the text, then the lines in order: 20, 21.
 #[no_mangle]
 pub extern "C" fn juwenfo_check(text: &[u8], sets: &mut [i64], work: &mut [i64]) -> Verdict
     ensures { λ r. ⌜ verdictOf r ≡ verdict (checkCall (now (text .entry)) (now (sets .entry)) (now (work .entry))) ⌝ }

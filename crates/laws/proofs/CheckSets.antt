@@ -1,6 +1,5 @@
 -- In the check every set is normal, not empty and of at most `limit` intervals: a form's answer is normal by demand 2, holds the result of two members, since a flagged form stops, and
--- `settle` stops what has too many intervals. Assumes nothing.
-use lib.Dec.{ltb}
+-- `settle` closes gaps until the limit is met. Assumes nothing.
 use lib.IntN.{ℤ, pos}
 use lib.ListN.{length, take, length-set, length-replicate}
 use lib.Seq.{take-length}
@@ -10,23 +9,24 @@ use mathlib.Core.Bool.{Bool, false}
 use mathlib.Core.List.{List}
 use mathlib.Core.Option.{none, some}
 use Prim.Native.Nat.{ℕ, _≤_}
-use borrow.Author.Tests.{ltb-false}
-use Rattle.meaning.specs.Refusals.{crowded, zeroDivisor, holdBroken}
+use Rattle.meaning.specs.Refusals.{zeroDivisor, holdBroken}
 use Rattle.meaning.specs.Lists.{All}
 use Rattle.meaning.specs.Outcome.{ok, done}
 use Rattle.meaning.specs.Number.{InRange, eqZ, Op1, Op2, add, sub, mul, div, rem, le, lt, ne, and, or, point1, point2, quotient, remainder}
 use Rattle.meaning.specs.Interval.{span, only}
 use Rattle.meaning.specs.NumberIntervals.{Set, _∈_, here, Normal, set1, set2, flag1, flag2}
 use Rattle.meaning.specs.Sheet.{registers, Form, lit, reg, form1, form2, put, hold, Line, input, act, FineForm, FineAct, FineLine}
-use Rattle.meaning.specs.Text.{read}
+use Rattle.meaning.specs.Text.{sheet, read}
 use Rattle.meaning.specs.Run.{worked}
+use Rattle.meaning.specs.Close.{close}
 use Rattle.meaning.specs.Check.{Bands, at, inside, settle, give, setOf, checkLine, startSets, check, checkText, setBy, lineBy, actBy, checkBy, textBy}
 use Rattle.meaning.specs.Demand2.{FlagIs, Demand2}
-use Rattle.meaning.specs.CheckSets.{SoundSet, SoundBands, stateOf, CheckSets}
+use Rattle.meaning.specs.CheckSets.{SoundSet, SoundBands, stateOf, CheckSets, ClosedAnswer, FormSetsAt, FormSets}
 use Rattle.laws.proofs.Integers.{zarith, clash, by-test, if-no, eqZ-is}
 use Rattle.laws.proofs.Members.{between, in-only}
 use Rattle.laws.proofs.All.{all-get, all-set, all-replicate, all-take}
 use Rattle.laws.proofs.Work.{ok-same, bind-ok, guard-ok, unless-ok, work-keeps, judge-worked}
+use Rattle.laws.proofs.CloseLaws.{close-few, close-normal, close-keeps, close-is}
 use Rattle.laws.proofs.Fine.{read-fine}
 use Rattle.laws.proofs.Demand2.{demand2}
 
@@ -43,16 +43,18 @@ zero-normal = (record { low = omega zarith; ordered = omega zarith; high = omega
 -- what a form's answer s leaves as the form's set
 pub record Settled (limit : ℕ) (s : Set) (flag : Bool) (s′ : Set) : Type 0 where
   pub unflagged : flag ≡ false
-  pub keeps : {z : ℤ} → z ∈ s → z ∈ s′
-  pub normal : Normal s → Normal s′
-  pub few : length s′ ≤ limit
+  pub is : s′ ≡ close limit s
 
 pub settle-ok : (limit : ℕ) (s : Set) (flag : Bool) {s′ : Set} → settle limit s flag ≡ ok s′ → Settled limit s flag s′
 unfolding settle
-settle-ok limit s flag {s′} e =
-    let k = unless-ok flag zeroDivisor _ e in
-    let g = unless-ok (ltb limit (length s)) crowded (ok s) (k .1) in
-    subst (λ (x : Set). Settled limit s flag x) (ok-same (g .1)) (record { unflagged = k .0; keeps = λ m. m; normal = λ n. n; few = ltb-false limit (length s) (g .0) })
+settle-ok limit s flag e = let k = unless-ok flag zeroDivisor _ e in record { unflagged = k .0; is = sym (ok-same (k .1)) }
+
+module _ {limit : ℕ} {s : Set} {flag : Bool} {s′ : Set} (k : Settled limit s flag s′) (n : Normal s) where
+  pub settled-keeps : {z : ℤ} → z ∈ s → z ∈ s′
+  settled-keeps m = rw (k .is) (close-keeps limit s n m)
+
+  pub settled-normal : Normal s′
+  settled-normal = rw (k .is) (close-normal limit s n)
 
 -- no flag: no member of the divisor is 0
 nonzero : {o : Op2} → FlagIs o → (a b : Set) {x y : ℤ} → Normal a → Normal b → x ∈ a → y ∈ b → flag2 o false a b ≡ false → eqZ y (pos 0) ≡ false
@@ -86,23 +88,30 @@ module _ (d : Demand2) where
     pub zero-sound : SoundSet limit (only (pos 0))
     zero-sound = record { normal = zero-normal; filled = (pos 0, in-only (pos 0)); few = enough }
 
+    settled-few : {s : Set} {flag : Bool} {s′ : Set} → Settled limit s flag s′ → length s′ ≤ limit
+    settled-few {s} k = rw (k .is) (close-few limit s enough)
+
     -- the set of one form of sound sets
     pub form1-sound : (o : Op1) (a : Set) {s : Set} → SoundSet limit a → settle limit (set1 o a) (flag1 o false) ≡ ok s → SoundSet limit s
     form1-sound o a m e =
         let k = settle-ok limit (set1 o a) (flag1 o false) e in
-        record { normal = k .normal (d .normal1 o a (m .normal)); filled = (point1 o (m .filled .0), k .keeps (result1-in o a (m .normal) (m .filled .1))); few = k .few }
+        let n = d .normal1 o a (m .normal) in
+        record { normal = settled-normal k n; filled = (point1 o (m .filled .0), settled-keeps k n (result1-in o a (m .normal) (m .filled .1))); few = settled-few k }
 
     pub form2-sound : (o : Op2) (a b : Set) {s : Set} → SoundSet limit a → SoundSet limit b → settle limit (set2 o a b) (flag2 o false a b) ≡ ok s → SoundSet limit s
     form2-sound o a b {s} m n e = go (settle-ok limit (set2 o a b) (flag2 o false a b) e)
       where
+        joined : Normal (set2 o a b)
+        joined = d .normal2 o a b (m .normal) (n .normal)
+
         filled : Settled limit (set2 o a b) (flag2 o false a b) s → (z : ℤ) × (point2 o (m .filled .0) (n .filled .0) ≡ some z) → (z : ℤ) × (z ∈ s)
-        filled k z = (z .0, k .keeps (result2-in o a b (m .normal) (n .normal) (m .filled .1) (n .filled .1) (z .1)))
+        filled k z = (z .0, settled-keeps k joined (result2-in o a b (m .normal) (n .normal) (m .filled .1) (n .filled .1) (z .1)))
 
         go : Settled limit (set2 o a b) (flag2 o false a b) s → SoundSet limit s
         go k = record {
-          normal = k .normal (d .normal2 o a b (m .normal) (n .normal));
+          normal = settled-normal k joined;
           filled = filled k (has-result o a b (m .normal) (n .normal) (m .filled .1) (n .filled .1) (k .unflagged));
-          few = k .few;
+          few = settled-few k;
         }
 
     -- every form's set, inner forms too
@@ -115,6 +124,27 @@ module _ (d : Demand2) where
         let b = bind-ok (setOf limit S f) _ e in
         let c = bind-ok (setOf limit S g) _ (b .2) in
         form2-sound o (b .0) (c .0) (form-sound f S h (w .0) (b .1)) (form-sound g S h (w .1) (c .1)) (c .2)
+
+    -- and it is the answer of its set call, closed
+    answer-closed : {s : Set} {flag : Bool} {s′ : Set} → Settled limit s flag s′ → Normal s → SoundSet limit s′ → ClosedAnswer limit s s′
+    answer-closed {s} k n m = record { normal = n; is = k .is; closed = rw (k .is) (close-is limit s enough n); sound = m }
+
+    form-sets-at : (B : Bands) → All (SoundSet limit) (B .sets) → FormSetsAt limit B
+    unfolding setBy
+    form-sets-at B h = record {
+      one = λ o e s w p.
+          let b = bind-ok (setOf limit (B .sets) e) _ p in
+          let m = form-sound e (B .sets) h w (b .1) in
+          let k = settle-ok limit (set1 o (b .0)) (flag1 o false) (b .2) in
+          (b .0, b .1, m, k .unflagged, answer-closed k (d .normal1 o (b .0) (m .normal)) (form1-sound o (b .0) m (b .2)));
+      two = λ o e f s w v p.
+          let b = bind-ok (setOf limit (B .sets) e) _ p in
+          let c = bind-ok (setOf limit (B .sets) f) _ (b .2) in
+          let m = form-sound e (B .sets) h w (b .1) in
+          let n = form-sound f (B .sets) h v (c .1) in
+          let k = settle-ok limit (set2 o (b .0) (c .0)) (flag2 o false (b .0) (c .0)) (c .2) in
+          (b .0, c .0, b .1, c .1, m, n, k .unflagged, answer-closed k (d .normal2 o (b .0) (c .0) (m .normal) (n .normal)) (form2-sound o (b .0) (c .0) m n (c .2)));
+    }
 
     -- what every line keeps
     pub record Kept (B : Bands) : Type 0 where
@@ -141,14 +171,16 @@ module _ (d : Demand2) where
     pub kept-sound : {B : Bands} → Kept B → SoundBands limit B
     kept-sound {B} h = record { size = h .size; each = λ r. all-get (SoundSet limit) (B .sets) r (only (pos 0)) zero-sound (h .sets-sound) }
 
-  pub check-sets-of : CheckSets
+  kept-after : (limit : ℕ) (t : List ℕ) (ls : List Line) (enough : 1 ≤ limit) → read t ≡ sheet ls → (n : ℕ) → Kept limit enough (stateOf (check limit (take n ls)))
   unfolding checkBy
-  check-sets-of limit t ls enough e n =
-      kept-sound limit enough
-      (work-keeps (checkLine limit) (Kept limit enough) FineLine (line-kept limit enough) 1 startSets (take n ls) (all-take FineLine n ls (read-fine t e)) (start-kept limit enough))
+  kept-after limit t ls enough e n =
+      work-keeps (checkLine limit) (Kept limit enough) FineLine (line-kept limit enough) 1 startSets (take n ls) (all-take FineLine n ls (read-fine t e)) (start-kept limit enough)
 
 pub check-sets : CheckSets
-check-sets = check-sets-of demand2
+check-sets limit t ls enough e n = kept-sound demand2 limit enough (kept-after demand2 limit t ls enough e n)
+
+pub form-sets : FormSets
+form-sets limit t ls enough e n = form-sets-at demand2 limit enough (stateOf (check limit (take n ls))) (kept-after demand2 limit t ls enough e n .sets-sound)
 
 -- what a pass gives
 pub passed-sound : (limit : ℕ) (t : List ℕ) {n : ℕ} {B : Bands} → 1 ≤ limit → checkText limit t ≡ worked n (done B) → SoundBands limit B

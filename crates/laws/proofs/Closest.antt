@@ -6,10 +6,10 @@ use mathlib.Core.List.{[], _∷_}
 use mathlib.Core.Logic.{_⊎_, inl, inr}
 use Prim.Native.Nat.{_≤_}
 use native.Mathlib.Omega.{arith}
-use Rattle.meaning.specs.Number.{Between}
+use Rattle.meaning.specs.Number.{Between, distance}
 use Rattle.meaning.specs.Interval.{Interval, Proper}
 use Rattle.meaning.specs.NumberIntervals.{Set, _∈_, here, there, Normal}
-use Rattle.meaning.specs.Setpoints.{distance, clamp, nearer, nearestFrom, nearest}
+use Rattle.meaning.specs.Setpoints.{clamp, nearer, nearestFrom, nearest}
 use Rattle.meaning.specs.Closest.{Closest, ClosestIn}
 use Rattle.laws.proofs.Integers.{zarith, suc-parts}
 use Rattle.laws.proofs.Members.{between, not-in-none}

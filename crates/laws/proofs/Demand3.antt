@@ -30,7 +30,7 @@ use Rattle.laws.proofs.Cut.{read-cut, read-whole}
 use Rattle.laws.proofs.Fine.{read-fine}
 use Rattle.laws.proofs.Holds.{inside-all}
 use Rattle.laws.proofs.Demand2.{demand2}
-use Rattle.laws.proofs.CheckSets.{span-normal, zero-normal, Settled, settle-ok, has-result, result1-in, result2-in}
+use Rattle.laws.proofs.CheckSets.{span-normal, zero-normal, Settled, settle-ok, settled-keeps, settled-normal, has-result, result1-in, result2-in}
 
 -- ---- each number in its set, and each set normal
 
@@ -100,7 +100,8 @@ module _ (d : Demand2) (limit : ℕ) where
       let b = bind-ok (setOf limit S f) _ e in
       let m = form-safe f h w (b .1) in
       let k = settle-ok limit (set1 o (b .0)) (flag1 o false) (b .2) in
-      meets (point1 o (m .num)) (ap (λ (v : Res ℤ). bind v (λ x. ok (point1 o x))) (m .is)) (k .keeps (result1-in d o (b .0) (m .normal) (m .mem))) (k .normal (d .normal1 o (b .0) (m .normal))) refl
+      let n = d .normal1 o (b .0) (m .normal) in
+      meets (point1 o (m .num)) (ap (λ (v : Res ℤ). bind v (λ x. ok (point1 o x))) (m .is)) (settled-keeps k n (result1-in d o (b .0) (m .normal) (m .mem))) (settled-normal k n) refl
   form-safe (form2 o f g) {t} {S} {s} h w e =
       let b = bind-ok (setOf limit S f) _ e in
       let c = bind-ok (setOf limit S g) _ (b .2) in
@@ -108,7 +109,8 @@ module _ (d : Demand2) (limit : ℕ) where
     where
       pair : (a b : Set) (m : Meets t f a) (n : Meets t g b) → Settled limit (set2 o a b) (flag2 o false a b) s → (z : ℤ) × (point2 o (m .num) (n .num) ≡ some z) → Meets t (form2 o f g) s
       pair a b m n k z =
-          meets (z .0) (both-values o t f g (m .is) (n .is) (z .1)) (k .keeps (result2-in d o a b (m .normal) (n .normal) (m .mem) (n .mem) (z .1))) (k .normal (d .normal2 o a b (m .normal) (n .normal))) refl
+          let j = d .normal2 o a b (m .normal) (n .normal) in
+          meets (z .0) (both-values o t f g (m .is) (n .is) (z .1)) (settled-keeps k j (result2-in d o a b (m .normal) (n .normal) (m .mem) (n .mem) (z .1))) (settled-normal k j) refl
 
       both : (a b : Set) → Meets t f a → Meets t g b → Settled limit (set2 o a b) (flag2 o false a b) s → Meets t (form2 o f g) s
       both a b m n k = pair a b m n k (has-result d o a b (m .normal) (n .normal) (m .mem) (n .mem) (k .unflagged))

@@ -7,8 +7,8 @@ use mathlib.Core.Bool.{cond}
 use Prim.Native.Nat.{ℕ, _+_, _-_, _≤_, _<_, _^_}
 use native.Mathlib.Omega.{arith}
 use borrow.Author.Tests.{ltb-true, ltb-false}
-use Rattle.meaning.specs.Number.{Between, InRange}
-use Rattle.meaning.specs.Setpoints.{distance, clamp, nearer}
+use Rattle.meaning.specs.Number.{Between, InRange, distance}
+use Rattle.meaning.specs.Setpoints.{clamp, nearer}
 use Rattle.laws.proofs.Integers.{up, down, zarith, cond-case, one-part, abs-parts, sub-parts, add-parts}
 use Rattle.laws.proofs.Members.{between}
 

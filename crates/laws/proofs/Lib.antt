@@ -1,5 +1,6 @@
 pub mod All
 pub mod CheckSets
+pub mod CloseLaws
 pub mod Closest
 pub mod Compare
 pub mod Composing
@@ -22,6 +23,7 @@ pub mod Lists
 pub mod Machine
 pub mod Members
 pub mod Near
+pub mod OtherThanNine
 pub mod Over
 pub mod PageCalls
 pub mod PageColumns
@@ -43,4 +45,3 @@ pub mod Sums
 pub mod Troubles
 pub mod Work
 pub mod Wrapping
-pub mod ZeroFirst

@@ -9,10 +9,10 @@ use Prim.Native.Nat.{ℕ, _≤_, _<_}
 use native.Mathlib.Omega.{arith}
 use lib.Dec.{ltb}
 use borrow.Author.Tests.{ltb-true, ltb-false}
-use Rattle.meaning.specs.Number.{MIN, MAX, Between, InRange, smaller, larger}
+use Rattle.meaning.specs.Number.{MIN, MAX, Between, InRange, smaller, larger, distance}
 use Rattle.meaning.specs.Interval.{Interval, span, Proper, each}
 use Rattle.meaning.specs.NumberIntervals.{Set, _∈_, here, there, Apart, Normal, meetPair, intersect, cutTo}
-use Rattle.meaning.specs.Setpoints.{distance, nearest, near}
+use Rattle.meaning.specs.Setpoints.{nearest, near}
 use Rattle.laws.proofs.Integers.{zarith, by-test, cond-case, add-parts, sub-parts, smaller-le, larger-ge, smaller-case, larger-case, suc-parts, ≤ℤ-trans}
 use Rattle.laws.proofs.Members.{between, not-in-none, in-span, in-left, in-right, in-either, member-range, normal-proper}
 use Rattle.laws.proofs.Join.{normal-unique}

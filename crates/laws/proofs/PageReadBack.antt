@@ -19,7 +19,7 @@ use Rattle.meaning.specs.Sheet.{registers, Line}
 use Rattle.meaning.specs.Text.{Split, splitByte, splitLines, lines, Read, sheet, noSheet, read}
 use Rattle.meaning.specs.Run.{worked, judge}
 use Rattle.meaning.specs.Check.{Bands, at, check, intervalLimit, textBy}
-use Rattle.meaning.specs.Composing.{Composed, text, finding, refusal, stoppedBy, byCheck, byRead, ifPassed}
+use Rattle.meaning.specs.Composing.{Composed, text, byCheck, byRead, ifPassed}
 use Rattle.meaning.specs.Listing.{listed}
 use Rattle.laws.proofs.Integers.{up, zarith, by-test, cond-case, if-yes, if-no, clash, add-parts, sub-parts, suc-parts, one-part, eq-out, ≤ℤ-trans}
 use Rattle.laws.proofs.All.{all-map, all-append}
@@ -291,22 +291,18 @@ intervals-most ls S few r (suc n) =
     omega (arith, own, intervals-most ls S few (suc r) n)
 
 pub page-most : PageMost
-unfolding page ifPassed stoppedBy textBy
+unfolding page ifPassed textBy
 page-most t x e = go (read t) refl e
   where
-    no-text : {X : Type 0} (k l : ℕ) (b : Bool) → cond b (finding k l) (refusal k l) ≡ text x → X
-    no-text k l true p = let z : _≡_ {A = ℕ} 0 1 = cc in absurd (let v : ⊥ = omega arith in v)
-    no-text k l false p = let z : _≡_ {A = ℕ} 0 1 = cc in absurd (let v : ⊥ = omega arith in v)
-
     whole : List Line → List Set → Composed
     whole ls S = text (pageText ls S)
 
     go : (y : Read) → read t ≡ y → byRead whole y ≡ text x → length x ≤ longestPage
-    go (noSheet k l) q p = no-text k l false p
+    go (noSheet k l) q p = let z : _≡_ {A = ℕ} 0 1 = cc in absurd (let v : ⊥ = omega arith in v)
     go (sheet ls) q p = inner (check intervalLimit ls) refl p
       where
         inner : (o : Outcome Bands) → check intervalLimit ls ≡ o → byCheck whole ls o ≡ text x → length x ≤ longestPage
-        inner (stopped k l B) c p = no-text k l (leb zeroDivisor k) p
+        inner (stopped k l B) c p = let z : _≡_ {A = ℕ} 0 1 = cc in absurd (let v : ⊥ = omega arith in v)
         inner (done B) c p =
             let w = ap (judge (check intervalLimit)) q ∙ ap (worked (length ls)) c in
             let s = passed-sound intervalLimit t (omega arith) w in

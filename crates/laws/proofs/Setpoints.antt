@@ -10,11 +10,11 @@ use native.Mathlib.Omega.{arith}
 use borrow.Author.Tests.{eq-eqb, eqb-true}
 use Rattle.meaning.specs.Lists.{All}
 use Rattle.meaning.specs.Refusals.{noRoom, emptySet}
-use Rattle.meaning.specs.Number.{InRange}
+use Rattle.meaning.specs.Number.{InRange, distance}
 use Rattle.meaning.specs.NumberIntervals.{Set, _∈_, Normal, filled, flat, intervals}
 use Rattle.meaning.specs.SetCalls.{Returned, refusal, callReturns, callOut}
 use Rattle.meaning.specs.Rooms.{NeverShort}
-use Rattle.meaning.specs.Setpoints.{distance, nearest, near, setpointRefusal, ReturnedMember, given, withheld, nearestReturns, withinReturns, withinOut}
+use Rattle.meaning.specs.Setpoints.{nearest, near, setpointRefusal, ReturnedMember, given, withheld, nearestReturns, withinReturns, withinOut}
 use Rattle.meaning.specs.Closest.{ClosestIn, Setpoints, RightNearest, RightWithin, SetpointCalls}
 use Rattle.laws.proofs.Integers.{clash}
 use Rattle.laws.proofs.Flat.{length-flat, length-intervals}

@@ -1,15 +1,13 @@
 -- What the check's answer tells a part that shows a passed sheet: a pass its marks and sets, and a finding or refusal what the part comes to. Assumes nothing.
-use lib.Dec.{leb}
 use lib.IntN.{ℤ, pos}
 use lib.ListN.{length, getD, drop}
 use lib.Seq.{getD-append-add}
 use mathlib.Core.Path.{_≡_, refl, sym, ap, _∙_, subst}
-use mathlib.Core.Bool.{Bool, true, false, cond}
+use mathlib.Core.Bool.{false}
 use mathlib.Core.List.{List, [], _∷_, _++_, append-assoc}
 use Prim.Native.Nat.{ℕ, zero, suc, _+_, _*_, _≤_, _<_}
 use native.Mathlib.Nat.{le-of-suc-le-suc}
 use native.Mathlib.Omega.{arith}
-use Rattle.meaning.specs.Refusals.{zeroDivisor}
 use Rattle.meaning.specs.Lists.{All, over}
 use Rattle.meaning.specs.Outcome.{done, stopped}
 use Rattle.meaning.specs.Interval.{only}
@@ -19,7 +17,7 @@ use Rattle.meaning.specs.Text.{read}
 use Rattle.meaning.specs.Run.{Judged, refused, worked}
 use Rattle.meaning.specs.Check.{Bands, at, slotSize, slot, layout, countIn, setIn, setsNeed, intervalLimit, check, checkText, setsLeftBy, textBy}
 use Rattle.meaning.specs.CheckSets.{SoundBands}
-use Rattle.meaning.specs.Composing.{Composed, finding, refusal, stoppedBy, ifPassed}
+use Rattle.meaning.specs.Composing.{Composed, finding, refusal, ifPassed}
 use Rattle.meaning.specs.Listing.{listed}
 use Rattle.laws.proofs.CheckSets.{passed-sound}
 use Rattle.laws.proofs.Composing.{passed-is, refused-is, stopped-is}
@@ -28,7 +26,7 @@ use Rattle.laws.proofs.Over.{length-over}
 use Rattle.laws.proofs.Slots.{Short, length-slot, length-shown, sound-short, sets-shown}
 use Rattle.laws.proofs.Work.{judge-worked}
 use Rattle.sheet.specs.Judging.{IsSheet}
-use Rattle.sheet_check.specs.Answer.{answerFor, troubleOf}
+use Rattle.sheet_check.specs.Answer.{answerFor}
 use Rattle.sheet_check.specs.declared.Answer.{Answer}
 use Rattle.sheet_check.specs.declared.Answer.the-variants as answer
 use Rattle.sheet_check.proofs.Walking.{pass-done}
@@ -109,17 +107,12 @@ module _ {t : List ℕ} {l : List ℤ} {a : Answer} (k : Told t l a) where
     Same (answer.Refused i j) = ifPassed part t ≡ refusal i j
 
     same : Same a
-    unfolding stoppedBy troubleOf
     same = subst Same (sym (k .gave)) (go (checkText intervalLimit t) refl)
       where
-        both : (i j : ℕ) (b : Bool) → ifPassed part t ≡ cond b (finding i j) (refusal i j) → Same (cond b (answer.Finding i j) (answer.Refused i j))
-        both i j true e = e
-        both i j false e = e
-
         go : (x : Judged Bands) → checkText intervalLimit t ≡ x → Same (answerFor x)
         go (refused i j) e = refused-is part t i j e
         go (worked n (done B)) e = tt
-        go (worked n (stopped i j B)) e = both i j (leb zeroDivisor i) (stopped-is part t n i j B e)
+        go (worked n (stopped i j B)) e = stopped-is part t n i j B e
 
     pub part-finding : {i j : ℕ} → a ≡ answer.Finding i j → ifPassed part t ≡ finding i j
     part-finding e = subst Same e same

@@ -6,7 +6,6 @@ use mathlib.Core.Bool.{cond}
 use mathlib.Core.List.{List, [], _∷_, _++_}
 use Prim.Native.Nat.{ℕ, zero, suc, _+_, _*_, _/_, _%_, _≤_, _<_}
 use native.Mathlib.Omega.{arith}
-use Rattle.meaning.specs.Refusals.{zeroDivisor}
 use Rattle.meaning.specs.Bytes.{bytes}
 use Rattle.meaning.specs.Outcome.{Outcome, done, stopped}
 use Rattle.meaning.specs.NumberIntervals.{Set, Normal}
@@ -44,16 +43,16 @@ decimal-any : (n : ℕ) → length (decimal n) ≤ 20
 unfolding decimal
 decimal-any n = omega (arith, digits-any 20 n [])
 
-pub trouble-most : (k l : ℕ) → length (troubleLine k l) ≤ longest
+pub trouble-most : (word : List ℕ) (k l : ℕ) → length word ≤ 8 → length (troubleLine word k l) ≤ longest
 unfolding troubleLine
-trouble-most k l =
-    let w : List ℕ = cond (ltb k zeroDivisor) (bytes "refused") (bytes "stop") in
-    let h = cond-case (λ (x : List ℕ). length x ≤ 7) (ltb k zeroDivisor) (bytes "refused") (bytes "stop") (λ t. omega arith) (λ t. omega arith) in
+trouble-most word k l h =
+    let rest : List ℕ = bytes " " ++ decimal l ++ bytes "\n" in
+    let size : length (troubleLine word k l) ≡ length (word ++ decimal k) + length rest = length-append (word ++ decimal k) rest in
     omega (
       arith,
       h,
-      length-append w (bytes " " ++ decimal k ++ (bytes " " ++ decimal l ++ bytes "\n")),
-      length-append (decimal k) (bytes " " ++ decimal l ++ bytes "\n"),
+      size,
+      length-append word (decimal k),
       length-append (decimal l) (bytes "\n"),
       decimal-any k,
       decimal-any l,
@@ -104,14 +103,14 @@ unfolding listing readText outcomeText textBy
 listing-most t = go (read t) refl
   where
     go : (x : Read) → read t ≡ x → length (readText x) ≤ longest
-    go (noSheet k l) e = trouble-most k l
+    go (noSheet k l) e = trouble-most (bytes "refused ") k l (omega arith)
     go (sheet ls) e = inner (check intervalLimit ls) refl
       where
         few : length ls ≤ 256
         few = let h = reads t e .shape .few in omega (arith, read-length t e)
 
         inner : (o : Outcome Bands) → check intervalLimit ls ≡ o → length (outcomeText ls o) ≤ longest
-        inner (stopped k l B) p = trouble-most k l
+        inner (stopped k l B) p = trouble-most (bytes "stop ") k l (omega arith)
         inner (done B) p =
             let h = passed-sound intervalLimit t (omega arith) (ap (judge (check intervalLimit)) e ∙ ap (worked (length ls)) p) in
             omega (arith, length-append (passLine (length ls)) (registerLines ls (B .sets) 0 registers), pass-most (length ls) few, lines-most ls h registers 0 (omega arith))

@@ -1,11 +1,12 @@
 -- The listing of a text by the check's answer: the lines of a pass come from the marks and the registers' slots; anything else is one line. Assumes nothing.
 use lib.IntN.{ℤ}
 use lib.ListN.{length, getD}
-use mathlib.Core.Path.{_≡_, refl, sym, ap, _∙_}
+use mathlib.Core.Path.{_≡_, refl, sym, ap, _∙_, subst}
 use mathlib.Core.Bool.{Bool, false, cond}
 use mathlib.Core.List.{List, [], _++_}
 use Prim.Native.Nat.{ℕ, zero, suc, _+_, _≤_, _<_}
 use native.Mathlib.Omega.{arith}
+use Rattle.meaning.specs.Bytes.{bytes}
 use Rattle.meaning.specs.Outcome.{Outcome, done, stopped}
 use Rattle.meaning.specs.NumberIntervals.{Set}
 use Rattle.meaning.specs.Sheet.{registers, Line}
@@ -13,12 +14,9 @@ use Rattle.meaning.specs.Text.{Read, sheet, noSheet, read}
 use Rattle.meaning.specs.Run.{worked, judge}
 use Rattle.meaning.specs.Check.{Bands, at, setIn, intervalLimit, check, textBy}
 use Rattle.meaning.specs.Listing.{troubleLine, registerLine, registerLines, listed, passLine, outcomeText, readText, listing}
-use Rattle.laws.proofs.Integers.{never}
-use Rattle.sheet_check.specs.Answer.{verdictOf, answerFor}
-use Rattle.sheet_check.specs.Working.{isPass}
+use Rattle.sheet_check.specs.Answer.{answerFor}
 use Rattle.sheet_check.specs.declared.Answer.{Answer}
 use Rattle.sheet_check.specs.declared.Answer.the-variants as answer
-use Rattle.sheet_check.proofs.Walking.{answer-verdict}
 use Rattle.listed.specs.Marks.{marksAfter}
 use Rattle.listed.specs.Told.{Told}
 use Rattle.listed.proofs.Passed.{Passed}
@@ -43,25 +41,26 @@ pass-text {t} {l} {n} p =
     (λ i. passLine (sym (p .sheet .count) i) ++ m i) ∙ sym (ap readText (p .sheet .reads) ∙ ap (outcomeText ls) (p .gives))
 
 module _ {t : List ℕ} {l : List ℤ} {a : Answer} (k : Told t l a) where
-  -- the number and line of anything but a pass
-  pub told-trouble : isPass a ≡ false → troubleLine (verdictOf a .number) (verdictOf a .line) ≡ listing t
+  -- the line of anything but a pass
+  abbrev Line-of : Answer → Type 0
+  Line-of (answer.Pass n) = Unit {0}
+  Line-of (answer.Finding i j) = troubleLine (bytes "stop ") i j ≡ listing t
+  Line-of (answer.Refused i j) = troubleLine (bytes "refused ") i j ≡ listing t
+
+  told-line : Line-of a
   unfolding textBy listing readText outcomeText
-  told-trouble z = go (read t) refl
+  told-line = subst Line-of (sym (k .gave)) (go (read t) refl)
     where
-      inner : (ls : List Line) (o : Outcome Bands) → a ≡ answerFor (worked (length ls) o) → troubleLine (verdictOf a .number) (verdictOf a .line) ≡ outcomeText ls o
-      inner ls (done B) e = never (sym (ap isPass e) ∙ z)
-      inner ls (stopped i j B) e =
-          let v = ap verdictOf e ∙ answer-verdict (worked (length ls) (stopped i j B)) in
-          (λ x. troubleLine (v x .number) (v x .line))
+      inner : (ls : List Line) → read t ≡ sheet ls → (o : Outcome Bands) → check intervalLimit ls ≡ o → Line-of (answerFor (worked (length ls) o))
+      inner ls e (done B) p = tt
+      inner ls e (stopped i j B) p = sym (ap readText e ∙ ap (outcomeText ls) p)
 
-      go : (x : Read) → read t ≡ x → troubleLine (verdictOf a .number) (verdictOf a .line) ≡ readText (read t)
-      go (sheet ls) e = inner ls (check intervalLimit ls) (k .gave ∙ ap (λ (x : Read). answerFor (judge (check intervalLimit) x)) e) ∙ sym (ap readText e)
-      go (noSheet i j) e =
-          let v = ap verdictOf (k .gave ∙ ap (λ (x : Read). answerFor (judge (check intervalLimit) x)) e) in
-          (λ x. troubleLine (v x .number) (v x .line)) ∙ sym (ap readText e)
+      go : (x : Read) → read t ≡ x → Line-of (answerFor (judge (check intervalLimit) x))
+      go (sheet ls) e = inner ls e (check intervalLimit ls) refl
+      go (noSheet i j) e = sym (ap readText e)
 
-  pub told-finding : {i j : ℕ} → a ≡ answer.Finding i j → troubleLine i j ≡ listing t
-  told-finding e = sym (ap (λ (x : Answer). troubleLine (verdictOf x .number) (verdictOf x .line)) e) ∙ told-trouble (ap isPass e)
+  pub told-finding : {i j : ℕ} → a ≡ answer.Finding i j → troubleLine (bytes "stop ") i j ≡ listing t
+  told-finding e = subst Line-of e told-line
 
-  pub told-refused : {i j : ℕ} → a ≡ answer.Refused i j → troubleLine i j ≡ listing t
-  told-refused e = sym (ap (λ (x : Answer). troubleLine (verdictOf x .number) (verdictOf x .line)) e) ∙ told-trouble (ap isPass e)
+  pub told-refused : {i j : ℕ} → a ≡ answer.Refused i j → troubleLine (bytes "refused ") i j ≡ listing t
+  told-refused e = subst Line-of e told-line

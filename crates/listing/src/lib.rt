@@ -76,8 +76,8 @@ fn told(out: &mut [u8], text: &[u8], sets: &[i64], a: sheet_check::Answer) -> us
 {
     match a {
         sheet_check::Answer::Pass(n) => passed(out, text, sets, n),
-        sheet_check::Answer::Finding(k, l) => trouble_line(out, k, l),
-        sheet_check::Answer::Refused(k, l) => trouble_line(out, k, l),
+        sheet_check::Answer::Finding(k, l) => trouble_line(out, b"stop ", k, l),
+        sheet_check::Answer::Refused(k, l) => trouble_line(out, b"refused ", k, l),
     }
 }
 

@@ -4,7 +4,8 @@ use Rattle.meaning.specs.Lists.{over}
 use Rattle.meaning.specs.Interval.{each}
 use Rattle.meaning.specs.NumberIntervals.{meetPair, normal, intervals, flat}
 use Rattle.meaning.specs.SetCalls.{refusal, callReturns, callOut}
-use Rattle.meaning.specs.Setpoints.{distance, clamp, nearer, nearestFrom, nearest, near, setpointRefusal, nearestReturns}
+use Rattle.meaning.specs.Number.{distance}
+use Rattle.meaning.specs.Setpoints.{clamp, nearer, nearestFrom, nearest, near, setpointRefusal, nearestReturns}
 use Rattle.meaning.specs.SetpointSamples.{SetpointSamples}
 
 pub setpoint-samples : SetpointSamples

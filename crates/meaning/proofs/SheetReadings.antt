@@ -1,20 +1,22 @@
 -- The values of specs/SheetReadings.antt, by computation. Assumes nothing.
 use mathlib.Core.Path.{refl}
 use Rattle.meaning.specs.Lists.{over}
-use Rattle.meaning.specs.Number.{within, window, wrap, negative, sum, quotient, point1, point2}
-use Rattle.meaning.specs.Interval.{each, without, negPair, pieces, spread, leastCorner, greatestCorner, divPiece, divPart, divPair}
-use Rattle.meaning.specs.NumberIntervals.{contains, insert, rebuild, union, meetPair, intersect, asBools, ofBools, someOf, ltBools, set1, set2, flag1, flag2, flat, intervals, normal}
+use Rattle.meaning.specs.Number.{distance, within, window, wrap, negative, sum, quotient, point1, point2}
+use Rattle.meaning.specs.Interval.{each, without, negPair, pieces, split, addPair, subPair, spread, leastCorner, greatestCorner, divPiece, divPart, divPair}
+use Rattle.meaning.specs.NumberIntervals.{contains, insert, rebuild, union, meetPair, intersect, asBools, ofBools, someOf, ltBools, neBools, set1, set2, flag1, flag2, flat, intervals, normal}
 use Rattle.meaning.specs.SetCalls.{factor1, factor2, refusal, refusal2, callReturns, callOut, callWork}
 use Rattle.meaning.specs.Outcome.{bind, work}
 use Rattle.meaning.specs.Sheet.{farForm, farAct, farLine, crossedAct, crossedLine}
 use Rattle.meaning.specs.Reading.{closed, begins, digits, number, scale, decimals, unsigned, literal, registerWith, head, start, arg, form, bounds, value, actOf, lineOf, wholeLine, judged, readLine}
 use Rattle.meaning.specs.Text.{splitLines, lineAt, cut, admit, readOne, readLines, read}
 use Rattle.meaning.specs.Run.{valueOf, runAct, runLine, startNumbers, run, runText, runCall, runLent}
+use Rattle.meaning.specs.Close.{missing, noneFewer, closeOne, closeGaps, close}
 use Rattle.meaning.specs.Check.{inside, settle, slot, layout, setBy, actBy, lineBy, checkBy, textBy, callBy}
+use Rattle.meaning.specs.OtherThanNine.{settleWithNine}
 use Rattle.meaning.specs.SheetReadings.{SheetReadings}
 
 pub sheet-readings : SheetReadings
-unfolding over within window wrap negative sum quotient point1 point2 each without negPair pieces spread leastCorner greatestCorner divPiece divPart divPair contains insert rebuild union meetPair intersect asBools ofBools someOf ltBools set1 set2 flag1 flag2 flat intervals normal factor1 factor2 refusal refusal2 callReturns callOut callWork bind work farForm farAct farLine crossedAct crossedLine closed begins digits number scale decimals unsigned literal registerWith head start arg form bounds value actOf lineOf wholeLine judged readLine splitLines lineAt cut admit readOne readLines read valueOf runAct runLine startNumbers run runText runCall runLent inside settle setBy actBy lineBy checkBy textBy callBy slot layout
+unfolding over within window wrap negative sum quotient point1 point2 each without negPair pieces split addPair subPair spread leastCorner greatestCorner divPiece divPart divPair contains insert rebuild union meetPair intersect asBools ofBools someOf ltBools neBools set1 set2 flag1 flag2 flat intervals normal factor1 factor2 refusal refusal2 callReturns callOut callWork bind work farForm farAct farLine crossedAct crossedLine closed begins digits number scale decimals unsigned literal registerWith head start arg form bounds value actOf lineOf wholeLine judged readLine splitLines lineAt cut admit readOne readLines read valueOf runAct runLine startNumbers run runText runCall runLent inside settle setBy actBy lineBy checkBy textBy callBy slot layout distance missing noneFewer closeOne closeGaps close settleWithNine
 sheet-readings = record {
   many-before-odd = refl;
   odd = refl;
@@ -33,6 +35,9 @@ sheet-readings = record {
   neg-work = refl;
   union-returns = refl;
   intersect-returns = refl;
+  union-closes-nothing = refl;
+  union-all-written = refl;
+  add-closes-nothing = refl;
   short-work = refl;
   short-work-left = refl;
   short-out = refl;
@@ -105,15 +110,20 @@ sheet-readings = record {
   at-the-limit = refl;
   over-the-limit = refl;
   sixteen-settled = refl;
-  seventeen-crowded = refl;
-  left-zero = refl;
-  left-crowd = refl;
-  zero-before-9 = refl;
+  seventeen-settled = refl;
   seventeen-by-zero = refl;
   sixteen-by-zero = refl;
+  was-sixteen = refl;
+  was-seventeen = refl;
+  was-zero-first = refl;
   crowded-division = refl;
-  inner-9 = refl;
-  inner-20 = refl;
+  closed-form = refl;
+  closed-divisor = refl;
+  open-divisor = refl;
+  closed-hold = refl;
+  left-zero = refl;
+  right-zero = refl;
+  inner-zero = refl;
   refused-lent = refl;
   refused-sets = refl;
   refused-work = refl;

@@ -1,4 +1,4 @@
--- The check (01, "Sheet"): its state is one set a register. Assumes nothing.
+-- The check (01, "Sheet", as requests (iii) and (v) of document 02 amend it): its state is one set a register. Assumes nothing.
 use lib.Dec.{ltb}
 use lib.IntN.{ℤ, pos, negsuc}
 use lib.Signed.{leZ}
@@ -6,11 +6,12 @@ use lib.ListN.{length, getD, set, take, drop, replicate}
 use mathlib.Core.Bool.{Bool, true, false, cond, _&&_, _||_}
 use mathlib.Core.List.{List, [], _∷_, _++_}
 use Prim.Native.Nat.{ℕ, _+_, _-_, _*_}
-use Rattle.meaning.specs.Refusals.{tooShort, crowded, zeroDivisor, holdBroken}
+use Rattle.meaning.specs.Refusals.{tooShort, zeroDivisor, holdBroken}
 use Rattle.meaning.specs.Lists.{over}
 use Rattle.meaning.specs.Outcome.{Res, ok, stop, bind, Outcome, done, stopped, work}
 use Rattle.meaning.specs.Interval.{span, only}
 use Rattle.meaning.specs.NumberIntervals.{Set, set1, set2, flag1, flag2, flat, intervals}
+use Rattle.meaning.specs.Close.{close}
 use Rattle.meaning.specs.Sheet.{registers, Form, lit, reg, form1, form2, Act, put, hold, Line, input, act}
 use Rattle.meaning.specs.Text.{read}
 use Rattle.meaning.specs.Run.{Judged, refused, worked, judge}
@@ -32,9 +33,9 @@ inside lo (i ∷ s) hi = leZ lo (i .lo) && (leZ (i .hi) hi && inside lo s hi)
 abbrev pub Settling : Type 0
 Settling = Set → Bool → Res Set
 
--- the check's way (01, "Sheet", whose "at one form 9 comes before 20" request (iii) turns round): 20 if the flag is set, else 9 if the set has over `limit` intervals
+-- the check's way (02, (iii) and (v)): 20 if the flag is set, else the set with gaps closed until `limit` intervals remain
 unfoldable pub settle : ℕ → Settling
-settle limit s flag = cond flag (stop zeroDivisor) (cond (ltb limit (length s)) (stop crowded) (ok s))
+settle limit s flag = cond flag (stop zeroDivisor) (ok (close limit s))
 
 -- register r takes a set
 abbrev pub give : Bands → ℕ → Set → Bands
@@ -47,7 +48,7 @@ startSets = record { sets = replicate registers (only (pos 0)) }
 -- ---- the check by any way of settling
 
 module _ (settles : Settling) where
-  -- a literal is the set of that one number, (reg R) the register's set, an OP form the answer of its set call; left argument, right, form
+  -- a literal is the set of that one number, (reg R) the register's set, an OP form the answer of its set call, settled before its outer form sees it; left argument, right, form
   unfoldable pub setBy : List Set → Form → Res Set
   setBy S (lit z) = ok (only z)
   setBy S (reg r) = ok (at S r)
@@ -132,7 +133,7 @@ setsLeftBy sets (refused k l) = sets
 setsLeftBy sets (worked n (done B)) = over (layout (B .sets)) sets
 setsLeftBy sets (worked n (stopped k l B)) = sets
 
--- the needed work is 0 after a pass, 9 or a finding
+-- the needed work is 0 after a pass or a finding
 abbrev pub workLeftBy : List ℤ → Judged Bands → List ℤ
 workLeftBy work (refused k l) = work
 workLeftBy work (worked n o) = over (replicate workNeed (pos 0)) work

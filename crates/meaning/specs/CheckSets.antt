@@ -1,19 +1,22 @@
 -- What holds of the check's sets after every line: from a limit of 1 on each register's set is normal, not empty, and of at most `limit` intervals (`check-sets` of laws/proofs/CheckSets.antt);
--- a hold is judged exactly (`hold-exact` of laws/proofs/Holds.antt); and the layout shows the sets (`sets-shown` of laws/proofs/Slots.antt). Assumes nothing.
+-- the set of an OP form is that of its set call with gaps closed (`form-sets`, there); a hold is judged exactly (`hold-exact` of laws/proofs/Holds.antt); and the layout shows the sets (`sets-shown` of laws/proofs/Slots.antt). Assumes nothing.
 use lib.IntN.{ℤ}
 use lib.ListN.{length, getD, take}
 use mathlib.Core.Path.{_≡_}
+use mathlib.Core.Bool.{false}
 use mathlib.Core.List.{List, []}
 use Prim.Native.Nat.{ℕ, _<_, _≤_}
 use Rattle.meaning.specs.Refusals.{holdBroken}
 use Rattle.meaning.specs.Lists.{over}
-use Rattle.meaning.specs.Number.{Between}
+use Rattle.meaning.specs.Number.{Between, Op1, Op2}
 use Rattle.meaning.specs.Outcome.{ok, stop, Outcome, done, stopped}
-use Rattle.meaning.specs.NumberIntervals.{Set, _∈_, Normal}
-use Rattle.meaning.specs.Sheet.{registers, hold, Line}
+use Rattle.meaning.specs.NumberIntervals.{Set, _∈_, Normal, set1, set2, flag1, flag2}
+use Rattle.meaning.specs.Sheet.{registers, Form, form1, form2, hold, Line, FineForm}
 use Rattle.meaning.specs.Text.{sheet, read}
 use Rattle.meaning.specs.Run.{worked}
-use Rattle.meaning.specs.Check.{Bands, at, checkAct, check, checkText, layout, setIn, intervalLimit}
+use Rattle.meaning.specs.Close.{close}
+use Rattle.meaning.specs.CloseLaws.{ClosedTo}
+use Rattle.meaning.specs.Check.{Bands, at, setOf, checkAct, check, checkText, layout, setIn, intervalLimit}
 
 pub record SoundSet (limit : ℕ) (s : Set) : Type 0 where
   pub normal : Normal s
@@ -32,6 +35,26 @@ stateOf (stopped k n a) = a
 -- after the first n lines, for every n
 abbrev pub CheckSets : Type 0
 CheckSets = (limit : ℕ) (t : List ℕ) (ls : List Line) → 1 ≤ limit → read t ≡ sheet ls → (n : ℕ) → SoundBands limit (stateOf (check limit (take n ls)))
+
+-- ---- the set of an OP form
+
+-- `answer` is the answer of the form's set call on its arguments' sets: the set that demand 2 speaks of, and that is compared with the original's operator. s is this set with gaps closed
+pub record ClosedAnswer (limit : ℕ) (answer s : Set) : Type 0 where
+  pub normal : Normal answer
+  pub is : s ≡ close limit answer
+  pub closed : ClosedTo limit answer s
+  pub sound : SoundSet limit s
+
+-- of forms that pass: the arguments' sets are sound, and no divisor may be 0
+pub record FormSetsAt (limit : ℕ) (B : Bands) : Type 0 where
+  pub one : (o : Op1) (e : Form) (s : Set) → FineForm e → setOf limit (B .sets) (form1 o e) ≡ ok s
+      → (a : Set) × (setOf limit (B .sets) e ≡ ok a) × SoundSet limit a × (flag1 o false ≡ false) × ClosedAnswer limit (set1 o a) s
+  pub two : (o : Op2) (e f : Form) (s : Set) → FineForm e → FineForm f → setOf limit (B .sets) (form2 o e f) ≡ ok s
+      → (a b : Set) × (setOf limit (B .sets) e ≡ ok a) × (setOf limit (B .sets) f ≡ ok b) × SoundSet limit a × SoundSet limit b × (flag2 o false a b ≡ false) × ClosedAnswer limit (set2 o a b) s
+
+-- after the first n lines, for every n
+abbrev pub FormSets : Type 0
+FormSets = (limit : ℕ) (t : List ℕ) (ls : List Line) → 1 ≤ limit → read t ≡ sheet ls → (n : ℕ) → FormSetsAt limit (stateOf (check limit (take n ls)))
 
 -- ---- a hold is judged exactly
 

@@ -8,13 +8,13 @@ use mathlib.Core.Bool.{false}
 use mathlib.Core.List.{List, [], _∷_}
 use Prim.Native.Nat.{ℕ, _-_, _≤_, _<_, _^_}
 use Rattle.meaning.specs.Lists.{All}
-use Rattle.meaning.specs.Number.{InRange}
+use Rattle.meaning.specs.Number.{InRange, distance}
 use Rattle.meaning.specs.Interval.{Interval}
 use Rattle.meaning.specs.NumberIntervals.{Set, _∈_, Normal, intervals}
 use Rattle.meaning.specs.SetCalls.{Returned}
 use Rattle.meaning.specs.Demand2Calls.{shown, Ends, Stands}
 use Rattle.meaning.specs.Rooms.{NeverShort}
-use Rattle.meaning.specs.Setpoints.{distance, nearest, near, ReturnedMember, nearestReturns, withinReturns, withinOut}
+use Rattle.meaning.specs.Setpoints.{nearest, near, ReturnedMember, nearestReturns, withinReturns, withinOut}
 
 -- of the numbers with the property P, m is one, none lies closer to x, and none at the same distance is lower
 pub record Closest (P : ℤ → Type 0) (x m : ℤ) : Type 0 where

@@ -1,11 +1,11 @@
 -- Parts that write text (02, (i), "Here and in each later part that writes text"): what a part makes of its input, what its call then returns, and what it leaves in its output. Assumes nothing.
-use lib.Dec.{leb, ltb}
+use lib.Dec.{ltb}
 use lib.ListN.{length}
 use mathlib.Core.Path.{_≡_}
 use mathlib.Core.Bool.{cond}
 use mathlib.Core.List.{List}
 use Prim.Native.Nat.{ℕ}
-use Rattle.meaning.specs.Refusals.{noRoom, zeroDivisor}
+use Rattle.meaning.specs.Refusals.{noRoom}
 use Rattle.meaning.specs.Lists.{over}
 use Rattle.meaning.specs.Outcome.{Outcome, done, stopped}
 use Rattle.meaning.specs.NumberIntervals.{Set}
@@ -34,13 +34,10 @@ textLeaves (refusal k l) out = out
 
 -- ---- a part for sheets that pass: one that does not answers as the check does
 
--- what stops the check at a line: numbers from 20 on are findings, those below refuse
-unfoldable pub stoppedBy : ℕ → ℕ → Composed
-stoppedBy k l = cond (leb zeroDivisor k) (finding k l) (refusal k l)
-
+-- what stops the check at a line is a finding
 abbrev pub byCheck : (List Line → List Set → Composed) → List Line → Outcome Bands → Composed
 byCheck part ls (done B) = part ls (B .sets)
-byCheck part ls (stopped k l B) = stoppedBy k l
+byCheck part ls (stopped k l B) = finding k l
 
 abbrev pub byRead : (List Line → List Set → Composed) → Read → Composed
 byRead part (sheet ls) = byCheck part ls (check intervalLimit ls)

@@ -12,6 +12,7 @@ pub mod Sheet
 pub mod Reading
 pub mod Text
 pub mod Run
+pub mod Close
 pub mod Check
 pub mod Composing
 pub mod Listing
@@ -24,9 +25,10 @@ pub mod Contracts
 pub mod Demand3
 pub mod Demand3Calls
 pub mod ReadLaws
+pub mod CloseLaws
 pub mod CheckSets
 pub mod Verdicts
-pub mod ZeroFirst
+pub mod OtherThanNine
 pub mod PlainRun
 pub mod PageReadBack
 pub mod Marked
@@ -35,3 +37,4 @@ pub mod SheetReadings
 pub mod Samples
 pub mod PageSamples
 pub mod SetpointSamples
+pub mod ClosingSamples

@@ -1,4 +1,4 @@
--- The listing (01, "Whole listing"): the bytes that the program writes for a text. Assumes nothing.
+-- The listing (01, "Whole listing", without the `refused 9` that request (v) of document 02 ends): the bytes that the program writes for a text. Assumes nothing.
 use lib.Dec.{ltb, eqb}
 use lib.IntN.{ℤ, pos, negsuc}
 use lib.ListN.{length}
@@ -6,7 +6,6 @@ use mathlib.Core.Bool.{Bool, false, cond, _||_}
 use mathlib.Core.List.{List, [], _∷_, _++_}
 use Prim.Native.Nat.{ℕ, zero, suc, _+_, _/_, _%_}
 use Prim.Native.Char.{code}
-use Rattle.meaning.specs.Refusals.{zeroDivisor}
 use Rattle.meaning.specs.Bytes.{bytes}
 use Rattle.meaning.specs.Outcome.{Outcome, done, stopped}
 use Rattle.meaning.specs.NumberIntervals.{Set}
@@ -32,11 +31,9 @@ decimalZ (negsuc n) = bytes "-" ++ decimal (suc n)
 
 -- ---- one line otherwise: number and line
 
--- refusals are numbered below findings
-unfoldable pub troubleLine : ℕ → ℕ → List ℕ
-troubleLine k l =
-    cond (ltb k zeroDivisor) (bytes "refused") (bytes "stop")
-    ++ (bytes " " ++ decimal k ++ (bytes " " ++ decimal l ++ bytes "\n"))
+-- behind the word `refused` or `stop`
+unfoldable pub troubleLine : List ℕ → ℕ → ℕ → List ℕ
+troubleLine word k l = word ++ decimal k ++ (bytes " " ++ decimal l ++ bytes "\n")
 
 -- ---- a pass
 
@@ -68,11 +65,11 @@ passLine n = bytes "pass " ++ decimal n ++ bytes "\n"
 
 unfoldable pub outcomeText : List Line → Outcome Bands → List ℕ
 outcomeText ls (done B) = passLine (length ls) ++ registerLines ls (B .sets) 0 registers
-outcomeText ls (stopped k l B) = troubleLine k l
+outcomeText ls (stopped k l B) = troubleLine (bytes "stop ") k l
 
 unfoldable pub readText : Read → List ℕ
 readText (sheet ls) = outcomeText ls (check intervalLimit ls)
-readText (noSheet k l) = troubleLine k l
+readText (noSheet k l) = troubleLine (bytes "refused ") k l
 
 unfoldable pub listing : List ℕ → List ℕ
 listing t = readText (read t)

@@ -45,6 +45,10 @@ smaller a b = cond (leZ a b) a b
 abbrev pub larger : ℤ → ℤ → ℤ
 larger a b = cond (leZ a b) b a
 
+-- the magnitude of the exact difference (02, (ii))
+unfoldable pub distance : ℤ → ℤ → ℕ
+distance a b = natAbs (a -ℤ b)
+
 -- ---- wrapping (01, "Spread")
 
 -- the window of an exact number: the k for which it is between 2^64·k − 2^63 and 2^64·k + 2^63 − 1

@@ -5,8 +5,8 @@ use mathlib.Core.List.{List, [], _∷_, _++_}
 use Prim.Native.Nat.{ℕ}
 use Rattle.meaning.specs.Bytes.{bytes}
 use Rattle.meaning.specs.Number.{MIN, MAX}
-use Rattle.meaning.specs.Refusals.{noRoom, ungrammatical, crowded, zeroDivisor, holdBroken}
-use Rattle.meaning.specs.Composing.{text, finding, refusal, textReturns, textLeaves, stoppedBy}
+use Rattle.meaning.specs.Refusals.{noRoom, ungrammatical, zeroDivisor, holdBroken}
+use Rattle.meaning.specs.Composing.{text, finding, refusal, textReturns, textLeaves}
 use Rattle.meaning.specs.Page.{Row, row, rowLine, page}
 use Rattle.meaning.specs.PageReadBack.{readRow, readPage}
 use Rattle.meaning.specs.Samples.{pump-sheet, zero-sheet, spaced-sheet, broken-sheet, nothing-sheet, held-sheet, ordered-sheet}
@@ -41,7 +41,6 @@ pub record PageSamples : Type 0 where
   pub zero : page zero-sheet ≡ finding zeroDivisor 1
   pub broken : page broken-sheet ≡ finding holdBroken 2
   pub spaced : page spaced-sheet ≡ refusal ungrammatical 2
-  pub crowded-line : stoppedBy crowded 2 ≡ refusal crowded 2
   -- two bytes into three, into two, and into one
   pub roomy : (textReturns (text (1 ∷ 2 ∷ [])) (7 ∷ 8 ∷ 9 ∷ []) ≡ record { number = 0; line = 0; count = 2 }) × (textLeaves (text (1 ∷ 2 ∷ [])) (7 ∷ 8 ∷ 9 ∷ []) ≡ 1 ∷ 2 ∷ 9 ∷ [])
   pub exact : (textReturns (text (1 ∷ 2 ∷ [])) (7 ∷ 8 ∷ []) ≡ record { number = 0; line = 0; count = 2 }) × (textLeaves (text (1 ∷ 2 ∷ [])) (7 ∷ 8 ∷ []) ≡ 1 ∷ 2 ∷ [])

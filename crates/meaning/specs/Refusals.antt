@@ -33,7 +33,7 @@ farLiteral = 7
 abbrev pub misplaced : ℕ
 misplaced = 8
 
--- the check: a form's set has over 16 intervals
+-- a form's set has over 16 intervals: the check gives it no longer (02, (v))
 abbrev pub crowded : ℕ
 crowded = 9
 

@@ -3,7 +3,7 @@ use mathlib.Core.Path.{_≡_}
 use mathlib.Core.List.{List, _++_}
 use Prim.Native.Nat.{ℕ}
 use Rattle.meaning.specs.Bytes.{bytes}
-use Rattle.meaning.specs.Listing.{troubleLine, listing}
+use Rattle.meaning.specs.Listing.{listing}
 
 abbrev pub pump-sheet : List ℕ
 pump-sheet =
@@ -62,6 +62,23 @@ ordered-listing =
     ++ bytes "r2 0..0 1000..1000\n"
     ++ bytes "r3 0..1000\n"
 
+abbrev pub crowded-sheet : List ℕ
+crowded-sheet =
+    bytes "(in 0 0 1)\n"
+    ++ bytes "(put 1 (lt (reg 0) 1))\n"
+    ++ bytes "(put 1 (add (reg 1) (mul (reg 1) 3)))\n"
+    ++ bytes "(put 1 (add (reg 1) (mul (reg 1) 9)))\n"
+    ++ bytes "(put 2 (add (reg 1) (mul (lt (reg 0) 1) 2)))\n"
+
+abbrev pub crowded-listing : List ℕ
+crowded-listing =
+    bytes "pass 5\n"
+    ++ bytes "r0 0..1000\n"
+    ++ bytes "r1 0..0 1000..1000 3000..3000 4000..4000 9000..9000 10000..10000 12000..12000 13000..13000"
+    ++ bytes " 27000..27000 28000..28000 30000..30000 31000..31000 36000..36000 37000..37000 39000..39000 40000..40000\n"
+    ++ bytes "r2 0..6000 9000..15000 27000..27000 28000..28000 29000..29000 30000..30000 31000..31000 32000..32000 33000..33000"
+    ++ bytes " 36000..36000 37000..37000 38000..38000 39000..39000 40000..40000 41000..41000 42000..42000\n"
+
 pub record Samples : Type 0 where
   -- 01's own example
   pub pump : listing pump-sheet ≡ pump-listing
@@ -77,5 +94,5 @@ pub record Samples : Type 0 where
   pub held : listing held-sheet ≡ held-listing
   -- registers ascending, one space before each interval, a single value by both ends
   pub ordered : listing ordered-sheet ≡ ordered-listing
-  -- the wording of a 9
-  pub crowded : troubleLine 9 2 ≡ bytes "refused 9 2\n"
+  -- 28 intervals in r2 (02, (v)): of the 24 gaps of 999 missing numbers the lowest twelve are closed, and the three wider ones stay
+  pub crowded : listing crowded-sheet ≡ crowded-listing

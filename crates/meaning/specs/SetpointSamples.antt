@@ -6,10 +6,10 @@ use mathlib.Core.Bool.{false}
 use mathlib.Core.List.{[], _∷_, _++_}
 use Prim.Native.Nat.{_-_, _^_}
 use Rattle.meaning.specs.Refusals.{notNormal, tooMany, noRoom, emptySet}
-use Rattle.meaning.specs.Number.{MIN, MAX}
+use Rattle.meaning.specs.Number.{MIN, MAX, distance}
 use Rattle.meaning.specs.Interval.{span, only}
 use Rattle.meaning.specs.SetCalls.{written, refused}
-use Rattle.meaning.specs.Setpoints.{distance, nearest, near, setpointRefusal, nearestReturns, withinReturns, withinOut}
+use Rattle.meaning.specs.Setpoints.{nearest, near, setpointRefusal, nearestReturns, withinReturns, withinOut}
 
 pub record SetpointSamples : Type 0 where
   -- the lower one on a tie

@@ -1,17 +1,14 @@
 -- Closest permitted setpoint (02, (ii)): the member of a set closest to a number, the members within a distance of it, and the two calls. Distances are exact and do not wrap. Assumes nothing.
 use lib.Dec.{ltb, eqb}
-use lib.IntN.{ℤ, pos, natAbs, _+ℤ_, _-ℤ_}
+use lib.IntN.{ℤ, pos, _+ℤ_, _-ℤ_}
 use lib.Signed.{ltZ}
 use mathlib.Core.Bool.{false, cond}
 use mathlib.Core.List.{List, [], _∷_}
 use Prim.Native.Nat.{ℕ}
 use Rattle.meaning.specs.Refusals.{emptySet}
+use Rattle.meaning.specs.Number.{distance}
 use Rattle.meaning.specs.NumberIntervals.{Set, cutTo, filled, intervals}
 use Rattle.meaning.specs.SetCalls.{Returned, refusal, callReturns, callOut}
-
--- the magnitude of the exact difference
-unfoldable pub distance : ℤ → ℤ → ℕ
-distance a b = natAbs (a -ℤ b)
 
 -- ---- the member at least distance, the lower one on a tie
 

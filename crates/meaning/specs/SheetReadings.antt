@@ -12,10 +12,11 @@ use Rattle.meaning.specs.Outcome.{ok, stop, done, stopped}
 use Rattle.meaning.specs.Number.{minus, MIN, MAX, neg, abs, not′, add, sub, mul, div, rem, le, lt, ne, and, or}
 use Rattle.meaning.specs.Interval.{span, only}
 use Rattle.meaning.specs.NumberIntervals.{intervals}
-use Rattle.meaning.specs.SetCalls.{refusal, refusal2, factor1, factor2, need1, need2, written, refused as notWritten, returns1, out1, work1, returnsUnion, returnsIntersect}
+use Rattle.meaning.specs.SetCalls.{refusal, refusal2, factor1, factor2, need1, need2, written, refused as notWritten, returns1, out1, work1, returns2, returnsUnion, outUnion, returnsIntersect}
 use Rattle.meaning.specs.Sheet.{registers, lit, reg, form1, form2, put, hold, act}
 use Rattle.meaning.specs.Text.{sheet, noSheet, read, lineAt, cut}
 use Rattle.meaning.specs.Run.{refused, worked, runText, verdict, runCall, leftBy, runLent}
+use Rattle.meaning.specs.OtherThanNine.{settleWithNine}
 use Rattle.meaning.specs.Check.{startSets, settle, intervalLimit, checkText, checkCall, slot, layout, setsLeftBy, workLeftBy}
 
 -- n single numbers with one missing between neighbours, by their ends
@@ -49,6 +50,10 @@ pub record SheetReadings : Type 0 where
   -- union and intersect have no flag
   pub union-returns : returnsUnion (pos 1 ∷ pos 1 ∷ []) (pos 2 ∷ pos 2 ∷ []) (replicate 3 (pos 9)) ≡ written 2 false
   pub intersect-returns : returnsIntersect (pos 1 ∷ pos 1 ∷ []) (pos 2 ∷ pos 2 ∷ []) [] ≡ written 0 false
+  -- a set call closes no gap (02, (v)): 17 intervals are written
+  pub union-closes-nothing : returnsUnion (singles 16) (pos 99 ∷ pos 99 ∷ []) (replicate 34 (pos 9)) ≡ written 34 false
+  pub union-all-written : outUnion (singles 16) (pos 99 ∷ pos 99 ∷ []) (replicate 34 (pos 9)) ≡ singles 16 ++ pos 99 ∷ pos 99 ∷ []
+  pub add-closes-nothing : returns2 add (singles 16) false (pos 0 ∷ pos 0 ∷ pos 2 ∷ pos 2 ∷ []) (replicate 34 (pos 9)) (replicate 128 (pos 7)) ≡ written 34 false
   -- 3 comes before 4 and leaves all as lent
   pub short-work : returns1 neg (pos 1 ∷ pos 1 ∷ []) true [] (replicate 3 (pos 7)) ≡ notWritten 3
   pub short-work-left : work1 neg (pos 1 ∷ pos 1 ∷ []) true [] (replicate 3 (pos 7)) ≡ replicate 3 (pos 7)
@@ -153,22 +158,31 @@ pub record SheetReadings : Type 0 where
   -- register by register: the count, then 32 for ends
   pub slot-ends : slot (span (pos 5) (pos 7)) ≡ pos 1 ∷ pos 5 ∷ pos 7 ∷ replicate 30 (pos 0)
   pub slots-in-turn : take 3 (drop 33 (layout (span (pos 5) (pos 7) ∷ only (pos 9) ∷ []))) ≡ pos 1 ∷ pos 9 ∷ pos 9 ∷ []
-  -- the limit itself is not over it
+  -- the limit itself is not over it; past it gaps are closed (02, (v))
   pub at-the-limit : settle 1 (only (pos 1)) false ≡ ok (only (pos 1))
-  pub over-the-limit : settle 1 (only (pos 1) ++ only (pos 5)) false ≡ stop 9
+  pub over-the-limit : settle 1 (only (pos 1) ++ only (pos 5)) false ≡ ok (span (pos 1) (pos 5))
   pub sixteen-settled : settle intervalLimit (intervals (singles 16)) false ≡ ok (intervals (singles 16))
-  pub seventeen-crowded : settle intervalLimit (intervals (singles 17)) false ≡ stop 9
-  -- left, right, form: with a limit of 1, (div 1 0) is 20 and (lt (reg 0) 1) is 9
-  pub left-zero : verdict (checkText 1 (bytes "(in 0 0 2)\n(put 1 (add (div 1 0) (lt (reg 0) 1)))\n")) ≡ record { number = 20; line = 2; count = 0 }
-  pub left-crowd : verdict (checkText 1 (bytes "(in 0 0 2)\n(put 1 (add (lt (reg 0) 1) (div 1 0)))\n")) ≡ record { number = 9; line = 2; count = 0 }
-  -- 20 comes before 9 at one form (02, (iii))
-  pub zero-before-9 : settle 0 (only (pos 1)) true ≡ stop 20
+  pub seventeen-settled : settle intervalLimit (intervals (singles 17)) false ≡ ok (span (pos 0) (pos 2) ++ intervals (drop 4 (singles 17)))
+  -- 20 is judged before closing (02, (iii) and (v))
   pub seventeen-by-zero : settle intervalLimit (intervals (singles 17)) true ≡ stop 20
   pub sixteen-by-zero : settle intervalLimit (intervals (singles 16)) true ≡ stop 20
-  -- so 1/[−1,1], which has two intervals, is 20 under a limit of 1; an inner form's 9 still comes before its outer form's 20, and an inner form's 20 before its outer form's 9
+  -- the way with 9, which (v) is compared with: past the limit alone, and 20 first
+  pub was-sixteen : settleWithNine intervalLimit (intervals (singles 16)) false ≡ ok (intervals (singles 16))
+  pub was-seventeen : settleWithNine intervalLimit (intervals (singles 17)) false ≡ stop 9
+  pub was-zero-first : settleWithNine intervalLimit (intervals (singles 17)) true ≡ stop 20
+  -- so 1/[−1,1], which has two intervals, is 20 under a limit of 1
   pub crowded-division : verdict (checkText 1 (bytes "(in 0 -1 1)\n(put 1 (div 1 (reg 0)))\n")) ≡ record { number = 20; line = 2; count = 0 }
-  pub inner-9 : verdict (checkText 1 (bytes "(in 0 0 2)\n(put 1 (div (lt (reg 0) 1) 0))\n")) ≡ record { number = 9; line = 2; count = 0 }
-  pub inner-20 : verdict (checkText 1 (bytes "(in 0 0 2)\n(put 1 (lt (div 1 (reg 0)) 1))\n")) ≡ record { number = 20; line = 2; count = 0 }
+  -- with a limit of 1, (lt (reg 0) 1) is not {0} and {1000} but all from 0 to 1000
+  pub closed-form : checkText 1 (bytes "(in 0 0 2)\n(put 1 (lt (reg 0) 1))\n") ≡ worked 2 (done (record { sets = span (pos 0) (pos 2000) ∷ span (pos 0) (pos 1000) ∷ replicate (registers - 2) (only (pos 0)) }))
+  -- and its outer form sees the closed set: 0 is in the divisor that has none under a limit of 2
+  pub closed-divisor : verdict (checkText 1 (bytes "(in 0 0 2)\n(put 1 (div 1 (sub (lt (reg 0) 1) 0.5)))\n")) ≡ record { number = 20; line = 2; count = 0 }
+  pub open-divisor : verdict (checkText 2 (bytes "(in 0 0 2)\n(put 1 (div 1 (sub (lt (reg 0) 1) 0.5)))\n")) ≡ record { number = 0; line = 0; count = 2 }
+  -- the register keeps the closed set
+  pub closed-hold : verdict (checkText 1 (bytes "(in 0 0 2)\n(put 1 (ne (reg 0) 1))\n(put 1 (sub (reg 1) 0.5))\n(hold 1 -0.5 0.5)\n(put 2 (div 1 (reg 1)))\n")) ≡ record { number = 20; line = 5; count = 0 }
+  -- trouble in either argument is the form's
+  pub left-zero : verdict (checkText 1 (bytes "(in 0 0 2)\n(put 1 (add (div 1 0) (lt (reg 0) 1)))\n")) ≡ record { number = 20; line = 2; count = 0 }
+  pub right-zero : verdict (checkText 1 (bytes "(in 0 0 2)\n(put 1 (add (lt (reg 0) 1) (div 1 0)))\n")) ≡ record { number = 20; line = 2; count = 0 }
+  pub inner-zero : verdict (checkText 1 (bytes "(in 0 0 2)\n(put 1 (lt (div 1 (reg 0)) 1))\n")) ≡ record { number = 20; line = 2; count = 0 }
   -- a refusal leaves the lent numbers of the run, and the sets and the work of the check; so does a finding the sets
   pub refused-lent : leftBy (pos 7 ∷ []) (refused 5 0) ≡ pos 7 ∷ []
   pub refused-sets : setsLeftBy (pos 7 ∷ []) (refused 5 0) ≡ pos 7 ∷ []

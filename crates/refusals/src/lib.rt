@@ -24,14 +24,8 @@ pub const FAR_LITERAL: u8 = 7;
 // A line: `in` after another kind, or a second one for a register.
 pub const MISPLACED: u8 = 8;
 
-// The check: a form's set has over 16 intervals.
-pub const CROWDED: u8 = 9;
-
 // Nearest, within: the set is empty.
 pub const EMPTY_SET: u8 = 10;
-
-// Numbers from here on are findings, those below refuse.
-pub const FINDINGS: u8 = 20;
 
 // Check and run: a divisor may be 0, or is 0.
 pub const ZERO_DIVISOR: u8 = 20;

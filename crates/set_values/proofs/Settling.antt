@@ -6,17 +6,18 @@ use Prim.Native.Nat.{ℕ, zero, suc, _-_, _*_, _/_, _%_, _≤_, _<_}
 use native.Mathlib.Omega.{arith}
 use lib.IntN.{ℤ, pos}
 use lib.ListN.{length, take, drop, replicate}
-use lib.Seq.{length-take-le}
-use borrow.Author.Tests.{lt-ltb, le-ltb}
-use Rattle.meaning.specs.Refusals.{crowded, zeroDivisor}
+use Rattle.meaning.specs.Refusals.{zeroDivisor}
 use Rattle.meaning.specs.Lists.{over}
 use Rattle.meaning.specs.Outcome.{Res, stop, bind}
 use Rattle.meaning.specs.Number.{Op1, Op2}
-use Rattle.meaning.specs.NumberIntervals.{Set, set1, set2, flag1, flag2, flat, intervals}
+use Rattle.meaning.specs.NumberIntervals.{Set, Normal, set1, set2, flag1, flag2, flat, intervals}
+use Rattle.meaning.specs.Close.{close}
 use Rattle.meaning.specs.Check.{settle, intervalLimit}
-use Rattle.laws.proofs.Flat.{intervals-flat, even-flat, length-flat, length-intervals}
+use Rattle.laws.proofs.CloseLaws.{close-few}
+use Rattle.laws.proofs.Flat.{intervals-flat, length-flat}
 use Rattle.laws.proofs.Over.{take-over}
 use Rattle.slices.specs.Wrote.{Wrote}
+use Rattle.closing.specs.Gaps.{Ends, Closed}
 use Rattle.cores.specs.Cored.{Cored}
 use Rattle.cores.specs.declared.Core.{Core}
 use Rattle.set_values.specs.Value.{padded, valueOf, resultOf, Sound, answer1, answer2, Left}
@@ -28,37 +29,39 @@ drop-replicate zero n a = let e : n - 0 ≡ n = omega arith in rw e
 drop-replicate (suc i) zero a = let e : 0 - suc i ≡ 0 = omega arith in rw e
 drop-replicate (suc i) (suc n) a = let e : suc n - suc i ≡ n - i = omega arith in rw e (drop-replicate i n a)
 
+-- ---- a set closed to a limit
+
+closed-size : {limit count n : ℕ} {old new : List ℤ} → Closed limit count old new n → n ≡ 2 * length (close limit (intervals (take count old)))
+closed-size {limit} {count} {n} {old} h = h .count ∙ length-flat (close limit (intervals (take count old)))
+
+-- a value has room for it
+pub closed-room : {limit count n : ℕ} {old new : List ℤ} → Closed limit count old new n → 1 ≤ limit → limit ≤ intervalLimit → n ≤ 32
+closed-room {limit} {count} {n} {old} h k m = omega (arith, closed-size h, close-few limit (intervals (take count old)) k)
+
 -- ---- the judgement on a form's answer: `count` numbers of work are its ends
 
-module _ (work : List ℤ) (count : ℕ) (flag : Bool) (fits : count ≤ length work) (even : count % 2 ≡ 0) where
-  abbrev ends : List ℤ
-  ends = take count work
+padded-ends : (s : Set) → over (flat s) (replicate 32 (pos 0)) ≡ padded s
+unfolding over padded
+padded-ends s = ap (λ (l : List ℤ). flat s ++ l) (drop-replicate (length (flat s)) 32 (pos 0))
 
-  size : length (intervals ends) ≡ count / 2
-  size = length-intervals ends ∙ ap (λ (n : ℕ). n / 2) (length-take-le count work fits)
+module _ (old : List ℤ) (count : ℕ) (flag : Bool) where
+  abbrev closed : Set
+  closed = close intervalLimit (intervals (take count old))
 
   abbrev Judged : SetV → Type 0
-  Judged v = v ≡ valueOf (settle intervalLimit (intervals ends) flag)
+  Judged v = v ≡ valueOf (settle intervalLimit (intervals (take count old)) flag)
 
   pub settle-flagged : flag ≡ true → Judged (valueOf (stop zeroDivisor))
   unfolding settle
   settle-flagged f = rw f
 
-  pub settle-crowded : flag ≡ false → 32 < count → Judged (valueOf (stop crowded))
-  unfolding settle
-  settle-crowded f h = let e = lt-ltb intervalLimit (length (intervals ends)) (omega (arith, size)) in rw (f, e)
-
-  padded-ends : over ends (replicate 32 (pos 0)) ≡ padded (intervals ends)
-  unfolding over padded
-  padded-ends =
-      let f : flat (intervals ends) ≡ ends = even-flat ends (let l = length-take-le count work fits in rw l even) in
-      rw f (ap (λ (l : List ℤ). ends ++ l) (drop-replicate (length ends) 32 (pos 0)))
-
-  pub settle-fine : count ≤ 32 → flag ≡ false → {l : List ℤ} → l ≡ over ends (replicate 32 (pos 0)) → Judged (record { stop = 0; count = count / 2; ends = l })
-  unfolding settle
-  settle-fine h f {l} el =
-      let e = le-ltb intervalLimit (length (intervals ends)) (omega (arith, size)) in
-      rw (f, e) (λ i. record { stop = 0; count = sym size i; ends = (el ∙ padded-ends) i })
+  module _ {new : List ℤ} {n : ℕ} (h : Closed intervalLimit count old new n) where
+    pub settle-fine : flag ≡ false → {l : List ℤ} → l ≡ over (take n new) (replicate 32 (pos 0)) → Judged (record { stop = 0; count = n / 2; ends = l })
+    unfolding settle
+    settle-fine f {l} el =
+        let size : n / 2 ≡ length closed = omega (arith, closed-size h) in
+        let ends : l ≡ padded closed = el ∙ ap (λ (x : List ℤ). over x (replicate 32 (pos 0))) (h .front) ∙ padded-ends closed in
+        rw f (λ i. record { stop = 0; count = size i; ends = ends i })
 
 -- ---- what is left
 
@@ -76,6 +79,10 @@ left-wrote {s} {n} {old} {new} h l = record {
 module _ {s : Set} {flag : Bool} {new : List ℤ} {c : Core} (h : Left s flag new c) where
   pub left-even : c .count % 2 ≡ 0
   left-even = omega (arith, h .count, length-flat s)
+
+  -- the work of a normal answer is the ends of a normal set
+  pub left-ends : Normal s → Ends (c .count) new
+  left-ends n = record { room = h .room; even = left-even; normal = rw (ap intervals (h .front) ∙ intervals-flat s) n }
 
   left-judged : {v : SetV} → v ≡ valueOf (settle intervalLimit (intervals (take (c .count) new)) (c .flag)) → v ≡ valueOf (settle intervalLimit s flag)
   left-judged e = e ∙ (λ i. valueOf (settle intervalLimit ((ap intervals (h .front) ∙ intervals-flat s) i) (h .flagged i)))

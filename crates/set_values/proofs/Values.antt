@@ -4,17 +4,17 @@ use mathlib.Core.Bool.{Bool, true, false, not, cond}
 use mathlib.Core.List.{List}
 use Prim.Native.Nat.{ℕ, _-_, _*_, _≤_}
 use native.Mathlib.Omega.{arith}
-use lib.Dec.{ltb}
 use lib.IntN.{ℤ, pos}
 use lib.ListN.{length, set, take, replicate, length-append, length-replicate}
 use lib.Seq.{take-at}
 use borrow.Author.Tests.{eq-eqb, ne-eqb, not-false}
-use Rattle.meaning.specs.Refusals.{crowded, zeroDivisor}
+use Rattle.meaning.specs.Refusals.{zeroDivisor}
 use Rattle.meaning.specs.Outcome.{Res, ok, stop, bind}
 use Rattle.meaning.specs.Number.{MIN, MAX, within, InRange, Op1, Op2}
 use Rattle.meaning.specs.Interval.{span, only}
 use Rattle.meaning.specs.NumberIntervals.{Set, set1, set2, flag1, flag2, flat, intervals}
 use Rattle.meaning.specs.Sheet.{beyond}
+use Rattle.meaning.specs.Close.{close}
 use Rattle.meaning.specs.Check.{settle, intervalLimit}
 use Rattle.meaning.specs.CheckSets.{SoundSet}
 use Rattle.laws.proofs.Integers.{zarith, by-test, from-within, between-within}
@@ -43,15 +43,14 @@ result-of h = ap resultOf (h .is) ∙ result-back (h .result) (h .sound)
 
 -- ---- an operation's answer
 
--- trouble has a number, 9 or 20
+-- trouble has a number, 20
 settle-number : (s : Set) (flag : Bool) {k : ℕ} → settle intervalLimit s flag ≡ stop k → k ≡ 0 → ⊥
 unfolding settle
-settle-number s flag {k} e z = go flag (ltb intervalLimit (length s)) (e ∙ ap (λ (n : ℕ). stop n) z)
+settle-number s flag {k} e z = go flag (e ∙ ap (λ (n : ℕ). stop n) z)
   where
-    go : (a b : Bool) → cond a (stop zeroDivisor) (cond b (stop crowded) (ok s)) ≡ stop 0 → ⊥
-    go true b e = let x : zeroDivisor ≡ 0 = cc in omega arith
-    go false true e = let x : crowded ≡ 0 = cc in omega arith
-    go false false e = let x : _≡_ {A = ℕ} 0 1 = cc in omega arith
+    go : (b : Bool) → cond b (stop zeroDivisor) (ok (close intervalLimit s)) ≡ stop 0 → ⊥
+    go true e = let x : zeroDivisor ≡ 0 = cc in omega arith
+    go false e = let x : _≡_ {A = ℕ} 0 1 = cc in omega arith
 
 settled-sound : (x : Res Set) → ((s : Set) → x ≡ ok s → SoundSet intervalLimit s) → ((k : ℕ) → x ≡ stop k → k ≡ 0 → ⊥) → SoundResult x
 settled-sound (ok s) f g = f s refl

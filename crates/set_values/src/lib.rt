@@ -1,4 +1,4 @@
-// A form's set by value, and the answer of an operation on such sets (01, "Sheet", as request (iii) amends it): 20 if a divisor may be 0, then 9 if it has over 16 intervals.
+// A form's set by value, and the answer of an operation on such sets (01, "Sheet", as requests (iii) and (v) amend it): 20 if a divisor may be 0, else its set with gaps closed until 16 intervals remain.
 // A value that stops has no set: its count and its ends are 0.
 use bools::BoolInterval;
 use cores::Core;
@@ -7,13 +7,13 @@ use cores::Relation;
 use forms::Op1;
 use forms::Op2;
 use limits::ENDS;
+use limits::INTERVALS;
 use limits::SLOT;
-use refusals::CROWDED;
 use refusals::ZERO_DIVISOR;
 ghost use mathlib.Core.Path.{_≡_};
 ghost use mathlib.Core.Bool.{false};
 ghost use mathlib.Core.Option.{some};
-ghost use Prim.Native.Nat.{_%_, _≤_, _<_};
+ghost use Prim.Native.Nat.{_≤_, _<_};
 ghost use lib.ListN.{length, take};
 ghost use lib.IntN.{pos};
 ghost use lib.Signed.{_≤ℤ_};
@@ -25,6 +25,7 @@ ghost use Rattle.meaning.specs.Check.{settle as settleOf, setIn, intervalLimit}
 ghost use Rattle.forms.specs.Answer.{op1Of, op2Of};
 ghost use Rattle.bools.specs.Reading.{boolsOf};
 ghost use Rattle.sets.specs.Sets.{Argument};
+ghost use Rattle.closing.specs.Gaps.{Ends};
 ghost use Rattle.set_values.specs.Value.{valueOf, Sound, Shown, Left, kindOf, answer1, answer2};
 
 // The number of the trouble, or 0; how many intervals the set has, and room for their ends, 0 past them.
@@ -84,22 +85,20 @@ pub fn register_set(regs: &[i64], r: usize) -> SetV
     }
 }
 
-// What a form's answer leaves: 20 if its flag is set, then 9 if it has over 16 intervals.
-fn settle(work: &[i64], count: usize, flag: bool) -> SetV
-    requires { ⌜ (count ≤ length (now work)) × (count % 2 ≡ 0) ⌝ }
+// What a form's answer leaves: 20 if its flag is set, else its set with gaps closed until 16 intervals remain.
+fn settle(work: &mut [i64], count: usize, flag: bool) -> SetV
+    requires { ⌜ Ends count (now work) ⌝ }
     ensures { λ r. ⌜ r ≡ valueOf (settleOf intervalLimit (intervals (take count (now (work .entry)))) flag) ⌝ }
 {
     if flag {
         return stopped(ZERO_DIVISOR);
     }
-    if ENDS < count {
-        return stopped(CROWDED);
-    }
+    let n = closing::close(work, count, INTERVALS);
     let mut ends = [0i64; ENDS];
-    slices::copy_front(&mut ends, work, count);
+    slices::copy_front(&mut ends, work, n);
     SetV {
         stop: 0,
-        count: count / 2,
+        count: n / 2,
         ends: ends,
     }
 }

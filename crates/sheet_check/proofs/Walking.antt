@@ -6,7 +6,6 @@ use Prim.Native.Nat.{ℕ, _+_, _-_, _≤_, _<_}
 use native.Mathlib.Omega.{arith}
 use native.Mathlib.Numerals.{add-one}
 use borrow.Author.Tests.{lt-ltb, le-ltb}
-use lib.Dec.{leb}
 use lib.IntN.{ℤ, pos}
 use lib.ListN.{length, take, drop, replicate, length-replicate}
 use lib.Seq.{take-all, drop-at}
@@ -19,7 +18,7 @@ use Rattle.meaning.specs.Text.{sheet, read}
 use Rattle.meaning.specs.Run.{verdict, Judged, refused, worked, judge}
 use Rattle.meaning.specs.Check.{Bands, checkLine, startSets, check, checkText, layout, setsNeed, workNeed, intervalLimit, checkCall, setsLeftBy, workLeftBy, checkSets, checkWork, textBy, checkBy, callBy}
 use Rattle.meaning.specs.CheckSets.{SoundBands}
-use Rattle.laws.proofs.Integers.{never, by-test}
+use Rattle.laws.proofs.Integers.{never}
 use Rattle.laws.proofs.Work.{work-step}
 use Rattle.laws.proofs.Fine.{read-line-fine}
 use Rattle.laws.proofs.Over.{over-same}
@@ -36,30 +35,22 @@ use Rattle.sheet.proofs.Judging.{refused-read}
 use Rattle.sheet.proofs.Walk.{Walk, Next, walk-start, walk-next, walk-done}
 use Rattle.set_values.specs.Value.{Shown}
 use Rattle.set_lines.specs.Worked.{lineCheck, Worked}
-use Rattle.sheet_check.specs.Answer.{verdictOf, troubleOf, answerFor, Called}
+use Rattle.sheet_check.specs.Answer.{verdictOf, answerFor, Called}
 use Rattle.sheet_check.specs.Working.{isPass, Checked}
 use Rattle.sheet_check.specs.declared.Answer.{Answer}
 use Rattle.sheet_check.specs.declared.Answer.the-variants as answer
-
-pub trouble-no-pass : (k l : ℕ) → isPass (troubleOf k l) ≡ false
-unfolding troubleOf
-trouble-no-pass k l = by-test (leb 20 k) (λ e. rw e) (λ e. rw e)
-
-trouble-verdict : (k l : ℕ) → verdictOf (troubleOf k l) ≡ record { number = k; line = l; count = 0 }
-unfolding troubleOf
-trouble-verdict k l = by-test (leb 20 k) (λ e. rw e) (λ e. rw e)
 
 -- what the answer says is the verdict
 pub answer-verdict : (x : Judged Bands) → verdictOf (answerFor x) ≡ verdict x
 answer-verdict (refused k l) = refl
 answer-verdict (worked n (done B)) = refl
-answer-verdict (worked n (stopped k l B)) = trouble-verdict k l
+answer-verdict (worked n (stopped k l B)) = refl
 
 -- a call that passes is done with every line
 pub pass-done : (x : Judged Bands) {n : ℕ} → answer.Pass n ≡ answerFor x → (B : Bands) × (x ≡ worked n (done B))
 pass-done (refused k l) e = never (ap isPass e)
 pass-done (worked m (done B)) {n} e = let d : m ≡ n = cc in (B, ap (λ (i : ℕ). worked i (done B)) d)
-pass-done (worked m (stopped k l B)) e = never (ap isPass e ∙ trouble-no-pass k l)
+pass-done (worked m (stopped k l B)) e = never (ap isPass e)
 
 pub enough : 1 ≤ intervalLimit
 enough = omega arith
@@ -113,10 +104,10 @@ module _ (t : List ℕ) (ls : List Line) (regs : List ℤ) (n at : ℕ) (g : Goi
         let s = line-of (g .bands) (take (e - at) (drop at t)) (next .reads-it) (w .stops z (g .bands) going-sound (g .shows)) in
         left-is ∙ rw s
 
-    pub checked-stop : (k ≡ 0 → ⊥) → {r : Answer} → r ≡ troubleOf k (n + 1) → Checked r after (checkText intervalLimit t)
+    pub checked-stop : (k ≡ 0 → ⊥) → {r : Answer} → r ≡ answer.Finding k (n + 1) → Checked r after (checkText intervalLimit t)
     checked-stop z {r} v =
         let x = going-stop z in
-        let p : isPass r ≡ false = ap isPass v ∙ trouble-no-pass k (n + 1) in
+        let p : isPass r ≡ false = ap isPass v in
         rw x (record {
           same = v;
           passes = λ y. never (sym y ∙ p);
@@ -159,7 +150,7 @@ module _ (t : List ℕ) (count : ℕ) (regs : List ℤ) (n at : ℕ) (g : Loopin
     pub looping-next : k ≡ 0 → Looping t count after (n + 1) (e + 1)
     looping-next z = record { lines = g .lines; count-is = g .count-is; going = going-next t (g .lines) regs n at (g .going) i ee w z }
 
-    pub looping-stop : (k ≡ 0 → ⊥) → {r : Answer} → r ≡ troubleOf k (n + 1) → Checked r after (checkText intervalLimit t)
+    pub looping-stop : (k ≡ 0 → ⊥) → {r : Answer} → r ≡ answer.Finding k (n + 1) → Checked r after (checkText intervalLimit t)
     looping-stop z v = checked-stop t (g .lines) regs n at (g .going) i ee w z v
 
   pub looping-done : length t ≤ at → Checked (answer.Pass count) regs (checkText intervalLimit t)

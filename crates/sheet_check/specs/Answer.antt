@@ -1,11 +1,8 @@
 -- What the answers of the check say, in the words of `meaning`. Assumes nothing.
-use lib.Dec.{leb}
 use lib.IntN.{ℤ}
 use mathlib.Core.Path.{_≡_}
-use mathlib.Core.Bool.{cond}
 use mathlib.Core.List.{List}
 use Prim.Native.Nat.{ℕ}
-use Rattle.meaning.specs.Refusals.{zeroDivisor}
 use Rattle.meaning.specs.Outcome.{done, stopped}
 use Rattle.meaning.specs.Run.{Verdict, verdict, Judged, refused, worked}
 use Rattle.meaning.specs.Check.{Bands, checkCall, checkSets, checkWork}
@@ -18,15 +15,11 @@ verdictOf (answer.Pass n) = record { number = 0; line = 0; count = n }
 verdictOf (answer.Finding k l) = record { number = k; line = l; count = 0 }
 verdictOf (answer.Refused k l) = record { number = k; line = l; count = 0 }
 
--- what a line meets: the numbers from 20 on are findings, 9 refuses
-unfoldable pub troubleOf : ℕ → ℕ → Answer
-troubleOf k l = cond (leb zeroDivisor k) (answer.Finding k l) (answer.Refused k l)
-
--- the answer for what the check comes to
+-- the answer for what the check comes to: what stops a line is a finding
 abbrev pub answerFor : Judged Bands → Answer
 answerFor (refused k l) = answer.Refused k l
 answerFor (worked n (done B)) = answer.Pass n
-answerFor (worked n (stopped k l B)) = troubleOf k l
+answerFor (worked n (stopped k l B)) = answer.Finding k l
 
 -- a call of the check: what it answers, and what it leaves in its slices
 pub record Called (t : List ℕ) (sets work : List ℤ) (r : Answer) (sets′ work′ : List ℤ) : Type 0 where

@@ -1,7 +1,6 @@
 // The check of a sheet (01, "Sheet"): one set a register, worked line by line. It works on an array of its own; the lent sets are written on a pass only.
 use limits::SETS;
 use limits::WORK;
-use refusals::FINDINGS;
 use refusals::TOO_SHORT;
 use set_lines::check_line;
 use set_lines::start;
@@ -15,25 +14,14 @@ ghost use Prim.Native.Nat.{_≤_};
 ghost use lib.ListN.{length};
 ghost use Rattle.meaning.specs.Check.{layout, startSets, setsNeed, workNeed, intervalLimit, checkText, setsLeftBy, workLeftBy};
 ghost use Rattle.sheet.specs.Judging.{IsSheet};
-ghost use Rattle.sheet_check.specs.Answer.{troubleOf, answerFor, Called};
+ghost use Rattle.sheet_check.specs.Answer.{answerFor, Called};
 ghost use Rattle.sheet_check.specs.Working.{isPass, Checked};
 
-// A pass with the count of lines, a finding or a refusal with its number and line.
+// A pass with the count of lines, a finding or a refusal with its number and line. What stops a line is a finding, 20 or 21; what reading meets, and a short slice, refuses.
 pub enum Answer {
     Pass(usize),
     Finding(u8, usize),
     Refused(u8, usize),
-}
-
-// A number from 20 on is a finding, one below refuses.
-fn trouble(k: u8, n: usize) -> Answer
-    ensures { λ r. ⌜ r ≡ troubleOf k n ⌝ }
-{
-    if FINDINGS <= k {
-        Answer::Finding(k, n)
-    } else {
-        Answer::Refused(k, n)
-    }
 }
 
 // The lines of a sheet in order, with its count of lines.
@@ -48,7 +36,7 @@ fn check_lines(text: &[u8], count: usize, regs: &mut [i64], work: &mut [i64]) ->
         n += 1;
         let k = check_line(&text[at..e], regs, work);
         if k != 0 {
-            return trouble(k, n);
+            return Answer::Finding(k, n);
         }
         at = e + 1;
     }

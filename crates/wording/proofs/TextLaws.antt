@@ -1,52 +1,23 @@
 -- How the texts of the listing are put together from their parts. Assumes nothing.
 use mathlib.Core.Path.{_≡_, refl, ap, _∙_}
-use mathlib.Core.Bool.{Bool, true, false, cond}
 use mathlib.Core.List.{List, [], _∷_, _++_, append-assoc}
 use Prim.Native.Nat.{ℕ, _+_, _≤_, _<_, _-_}
 use native.Mathlib.Omega.{arith}
-use borrow.Author.Tests.{lt-ltb, le-ltb}
-use lib.Dec.{ltb}
 use lib.IntN.{ℤ, pos}
 use lib.ListN.{length, getD, take, drop, length-append}
 use lib.Seq.{take-all}
-use Rattle.meaning.specs.Refusals.{zeroDivisor}
 use Rattle.meaning.specs.Bytes.{bytes}
 use Rattle.meaning.specs.NumberIntervals.{intervals}
 use Rattle.meaning.specs.Listing.{decimal, decimalZ, troubleLine, passLine, intervalTexts, registerLine}
-use Rattle.wording.specs.Texts.{wordLine, troubleStart, intervalText}
+use Rattle.wording.specs.Texts.{wordLine, intervalText}
 
 pub pass-line : (n : ℕ) → wordLine (bytes "pass ") n ≡ passLine n
 unfolding wordLine passLine
 pass-line n = refl
 
-pub refused-start : (k : ℕ) → k < 20 → bytes "refused " ++ decimal k ≡ troubleStart k
-unfolding troubleStart
-refused-start k h = rw (lt-ltb k 20 h)
-
-pub stop-start : (k : ℕ) → 20 ≤ k → bytes "stop " ++ decimal k ≡ troubleStart k
-unfolding troubleStart
-stop-start k h = rw (le-ltb k 20 h)
-
--- "stop" is the shorter word
-pub stop-room : (k : ℕ) → length (bytes "stop " ++ decimal k) ≤ length (troubleStart k)
-unfolding troubleStart
-stop-room k = by (ltb k zeroDivisor)
-  where
-    by : (t : Bool) →
-        length (bytes "stop " ++ decimal k)
-        ≤ length (cond t (bytes "refused ") (bytes "stop ") ++ decimal k)
-    by true = omega arith
-    by false = omega arith
-
-pub trouble-line : (k l : ℕ) → troubleStart k ++ wordLine (bytes " ") l ≡ troubleLine k l
-unfolding troubleStart wordLine troubleLine
-trouble-line k l = by (ltb k zeroDivisor)
-  where
-    by : (t : Bool) →
-        (cond t (bytes "refused ") (bytes "stop ") ++ decimal k) ++ ((bytes " " ++ decimal l) ++ bytes "\n")
-        ≡ cond t (bytes "refused") (bytes "stop") ++ (bytes " " ++ decimal k ++ (bytes " " ++ decimal l ++ bytes "\n"))
-    by true = refl
-    by false = refl
+pub trouble-line : (word : List ℕ) (k l : ℕ) → (word ++ decimal k) ++ wordLine (bytes " ") l ≡ troubleLine word k l
+unfolding wordLine troubleLine
+trouble-line word k l = refl
 
 -- what is passed on as the machine's own copy of the ends is the same text
 pub interval-as : {a b c d : ℤ} → a ≡ c → b ≡ d → intervalText a b ≡ intervalText c d

@@ -1,21 +1,13 @@
 -- Parts of a line of the listing (01, "Whole listing"), each the text that one function writes. Assumes nothing.
-use mathlib.Core.Bool.{cond}
 use mathlib.Core.List.{List, _++_}
-use lib.Dec.{ltb}
 use lib.IntN.{ℤ}
 use Prim.Native.Nat.{ℕ}
-use Rattle.meaning.specs.Refusals.{zeroDivisor}
 use Rattle.meaning.specs.Bytes.{bytes}
 use Rattle.meaning.specs.Listing.{decimal, decimalZ}
 
 -- a word, a number and LF
 unfoldable pub wordLine : List ℕ → ℕ → List ℕ
 wordLine w n = (w ++ decimal n) ++ bytes "\n"
-
--- refusals are numbered below findings
-unfoldable pub troubleStart : ℕ → List ℕ
-troubleStart k =
-    cond (ltb k zeroDivisor) (bytes "refused ") (bytes "stop ") ++ decimal k
 
 unfoldable pub intervalText : ℤ → ℤ → List ℕ
 intervalText lo hi = (bytes " " ++ decimalZ lo) ++ (bytes ".." ++ decimalZ hi)

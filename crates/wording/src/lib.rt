@@ -1,13 +1,12 @@
 // The lines of a listing (01, "Whole listing"): words, numbers and intervals, in bytes. Each function writes its part at the front of the bytes that it is
 // lent, and returns how many they are.
-use refusals::FINDINGS;
 ghost use mathlib.Core.List.{_++_};
 ghost use Prim.Native.Nat.{_≤_};
 ghost use lib.ListN.{length};
 ghost use Rattle.meaning.specs.NumberIntervals.{intervals};
 ghost use Rattle.meaning.specs.Listing.{decimal, decimalZ, troubleLine, passLine, intervalTexts, registerLine};
 ghost use Rattle.decimal.specs.Written.{Written};
-ghost use Rattle.wording.specs.Texts.{wordLine, troubleStart, intervalText};
+ghost use Rattle.wording.specs.Texts.{wordLine, intervalText};
 
 // A word, and a number behind it.
 fn word_nat(out: &mut [u8], word: &[u8], n: u64) -> usize
@@ -44,24 +43,12 @@ pub fn pass_line(out: &mut [u8], n: usize) -> usize
     word_line(out, b"pass ", n as u64)
 }
 
-// "refused K", or "stop K" for a finding.
-fn trouble_start(out: &mut [u8], k: u8) -> usize
-    requires { ⌜ length (troubleStart k) ≤ length (now out) ⌝ }
-    ensures { λ r. ⌜ Written r (troubleStart k) (now (out .exit)) (now (out .entry)) ⌝ }
+// The one line of a refusal or a finding: its word, its number and its line.
+pub fn trouble_line(out: &mut [u8], word: &[u8], k: u8, l: usize) -> usize
+    requires { ⌜ length (troubleLine (now word) k l) ≤ length (now out) ⌝ }
+    ensures { λ r. ⌜ Written r (troubleLine (now (word .entry)) k l) (now (out .exit)) (now (out .entry)) ⌝ }
 {
-    if k < FINDINGS {
-        word_nat(out, b"refused ", k as u64)
-    } else {
-        word_nat(out, b"stop ", k as u64)
-    }
-}
-
-// The one line of a refusal or a finding: its number and its line.
-pub fn trouble_line(out: &mut [u8], k: u8, l: usize) -> usize
-    requires { ⌜ length (troubleLine k l) ≤ length (now out) ⌝ }
-    ensures { λ r. ⌜ Written r (troubleLine k l) (now (out .exit)) (now (out .entry)) ⌝ }
-{
-    let at = trouble_start(out, k);
+    let at = word_nat(out, word, k as u64);
     at + word_line(&mut out[at..], b" ", l as u64)
 }
 

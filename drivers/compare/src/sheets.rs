@@ -39,6 +39,48 @@ fn nested(op: &str, depth: usize) -> String {
     format!("(put 4 {}(reg 2){})", format!("({op} ").repeat(depth), " (reg 3))".repeat(depth))
 }
 
+/// Registers 1 to 8 with 16 single numbers each, base and step by register, and then `line`, whose every form has 256 intervals before its gaps are closed, until there are 256 lines.
+fn closing(terms: [&str; 8], line: &str) -> String {
+    let mut s = String::from("(in 0 -1 1)\n(put 9 (le (reg 0) 0))\n(put 9 (add (reg 9) (mul 2 (reg 9))))\n(put 9 (add (reg 9) (mul 4 (reg 9))))\n");
+    for (r, term) in terms.iter().enumerate() {
+        let (base, step) = term.split_once(' ').unwrap();
+        s += &format!("(put {} (add {base} (mul {step} (reg 9))))\n", r + 1);
+    }
+    while s.lines().count() < 256 {
+        s += line;
+        s.push('\n');
+    }
+    s
+}
+
+/// Seven such forms a line: remainders in rows that are not sorted, nested remainders, nested products and quotients.
+fn closed_everywhere() -> Vec<(String, String)> {
+    let name = |what: &str| format!("256 lines, gaps closed at 7 forms a line: {what}");
+    vec![
+        (
+            name("rem in rows out of order, and add"),
+            closing(
+                ["13983477.513 0.002", "10000 46.99", "9756588244.907 0.002", "100000000 482035.959", "2255879.166 0.002", "1000 1.593", "99428763910525.388 0.002", "1000000000000 4621404521.805"],
+                "(put 10 (add (add (rem (reg 1) (reg 2)) (rem (reg 3) (reg 4))) (add (rem (reg 5) (reg 6)) (rem (reg 7) (reg 8)))))",
+            ),
+        ),
+        (
+            name("rem, nested"),
+            closing(
+                ["6467998.26 0.004", "3234004.16 0.08", "1617002.08 1.6", "808501.04 32", "404250.52 640", "202125.26 12800", "7680030.06 0.004", "3840020.06 256000"],
+                "(put 10 (add (rem (rem (rem (rem (rem (reg 1) (reg 2)) (reg 3)) (reg 4)) (reg 5)) (reg 6)) (rem (reg 7) (reg 8))))",
+            ),
+        ),
+        (
+            name("mul and div, nested"),
+            closing(
+                ["1000000 0.005", "1000000 0.098", "1000000 2.009", "1000000 41.185", "1000000 844.292", "1000000 19970.753", "1000000 0.005", "400000 400000"],
+                "(put 10 (add (mul (div (mul (div (mul (reg 1) (reg 2)) (reg 3)) (reg 4)) (reg 5)) (reg 6)) (mul (reg 7) (reg 8))))",
+            ),
+        ),
+    ]
+}
+
 /// 256 lines of nested operations on 16 by 16 intervals, and 256 lines that are only read.
 fn heaviest() -> Vec<(String, String)> {
     let mut v = vec![];
@@ -48,6 +90,7 @@ fn heaviest() -> Vec<(String, String)> {
             v.push((format!("256 lines, {depth} {op} a line, 16 intervals of width {width}"), filled(&nested(op, depth), width)));
         }
     }
+    v.extend(closed_everywhere());
     let pair = "(rem (reg 2) (reg 3))";
     v.push(("256 lines, four rem side by side, width 0.3".into(), filled(&format!("(put 4 (and (and {pair} {pair}) (and {pair} {pair})))"), "0.3")));
     v.push(("256 lines, rem and div of both signs".into(), filled("(put 4 (and (rem (sub (reg 3) 17) (reg 3)) (div (sub (reg 3) 17) (neg (reg 3)))))", "0.3")));

@@ -3,9 +3,9 @@ use mathlib.Core.Path.{_≡_, refl, _∙_}
 use native.Mathlib.Omega.{arith}
 use mir.Facts.{toZ-ofZ}
 use Rattle.laws.proofs.Machine.{rd}
-use Rattle.meaning.specs.Setpoints.{distance}
 use Rattle.laws.proofs.Distances.{nearer-case}
 use borrow.Author.Needs.{needs}
+use Rattle.meaning.specs.Number.{distance}
 use Rattle.setpoints.proofs.closer.Statement.{statement}
 use Rattle.setpoints.proofs.closer.Tie as tie
 

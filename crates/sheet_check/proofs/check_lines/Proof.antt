@@ -50,23 +50,20 @@ check-line-requires c κs =
     let s = c .before .before .before .before .before .before .before in
     (looping-shown (s .args .text .now) (s .args .count) (m .loop .regs) (m .loop .n) (m .loop .at) (m .loop .inv .3), m .loop .inv .0)
 
-trouble-requires : tie.Need-trouble-requires Inv-loop μ-loop
-trouble-requires c κs = search needs
-
 same-length : tie.Need-same-length Inv-loop μ-loop
-same-length c = c .before .before .before .before .check-line .kept .1 .0 ∙ c .before .before .before .before .before .before .before .before .before .before .loop .inv .2
+same-length c = c .before .before .before .check-line .kept .1 .0 ∙ c .before .before .before .before .before .before .before .before .before .loop .inv .2
 
 same-length-2 : tie.Need-same-length-2 Inv-loop μ-loop
-same-length-2 c = c .before .before .before .before .check-line .kept .1 .1 .0 ∙ c .before .before .before .before .before .before .before .before .before .before .loop .inv .1
+same-length-2 c = c .before .before .before .check-line .kept .1 .1 .0 ∙ c .before .before .before .before .before .before .before .before .before .loop .inv .1
 
 returns : tie.Need-returns Inv-loop μ-loop
 returns c =
-    let line-end = c .before .before .before .before .before .before .before .before .line-end in
-    let loop-test = c .before .before .before .before .before .before .before .before .before .loop-test in
-    let m = c .before .before .before .before .before .before .before .before .before .before in
-    let s = c .before .before .before .before .before .before .before .before .before .before .before .before in
-    looping-stop (s .args .text .now) (s .args .count) (m .loop .regs) (m .loop .n) (m .loop .at) (m .loop .inv .3) (loop-test .taken) (line-end .ensures) (c .before .before .before .before .check-line .ensures)
-    (c .before .if1 .taken) (c .trouble .ensures)
+    let line-end = c .before .before .before .before .before .before .before .line-end in
+    let loop-test = c .before .before .before .before .before .before .before .before .loop-test in
+    let m = c .before .before .before .before .before .before .before .before .before in
+    let s = c .before .before .before .before .before .before .before .before .before .before .before in
+    looping-stop (s .args .text .now) (s .args .count) (m .loop .regs) (m .loop .n) (m .loop .at) (m .loop .inv .3) (loop-test .taken) (line-end .ensures) (c .before .before .before .check-line .ensures)
+    (c .if1 .taken) refl
 
 add-at : tie.Need-add-at Inv-loop μ-loop
 add-at c =
@@ -121,5 +118,5 @@ returns-2 c =
 
 pub check-lines-spec : {M : Type 1} → statement M
 check-lines-spec =
-    tie.close (tie.spec Inv-loop μ-loop loop-holds line-end-requires add-n sub-check-line part-check-line-start part-check-line-end check-line-requires trouble-requires
+    tie.close (tie.spec Inv-loop μ-loop loop-holds line-end-requires add-n sub-check-line part-check-line-start part-check-line-end check-line-requires
     same-length same-length-2 returns add-at loop-less loop-again same-length-3 same-length-4 returns-2)

@@ -1,0 +1,5 @@
+pub mod Thin
+pub mod Bridge
+pub mod Least
+pub mod Search
+pub mod Fronts
