@@ -27,7 +27,7 @@
 #include <stddef.h>
 #include <stdint.h>
 
-#define JUWENFO_VERSION "0.5.0" /* the one place of it: the callers in Rust and Python take it from here */
+#define JUWENFO_VERSION "0.6.0" /* the one place of it: the callers in Rust and Python take it from here */
 
 /* An answer that is dropped may be a refusal: compilers that know how warn of it. */
 #if (defined __cplusplus && __cplusplus >= 201703L) || (defined __STDC_VERSION__ && __STDC_VERSION__ >= 202311L)
@@ -159,14 +159,16 @@ typedef struct {
 JUWENFO_ANSWERS juwenfo_verdict juwenfo_judge(const uint8_t *text, size_t text_len);
 
 /* Checks a sheet: 3 (sets shorter than JUWENFO_SETS or work than JUWENFO_WORK), the refusals of juwenfo_judge, then the lines in order: 20, 21.
+ * A register that no line has written may hold any number: its set is that from MIN to MAX.
  * Where a form's set has over 16 intervals, gaps are closed until 16 remain: first the gap with the fewest missing numbers, the lowest of equals.
  * number 0 is a pass: the first JUWENFO_SETS numbers of sets hold the set of each register after the last line, unused ones 0.
  * Otherwise sets is as lent. After a pass, 20 and 21 the first JUWENFO_WORK numbers of work are 0; after 3 and 5 to 8 work is as lent. */
 JUWENFO_ANSWERS juwenfo_verdict juwenfo_check(const uint8_t *text, size_t text_len, int64_t *sets, size_t sets_len, int64_t *work, size_t work_len);
 
-/* Runs a sheet on the numbers lent for its `in` lines: 3 (fewer than JUWENFO_LENT), the refusals of juwenfo_judge, then the lines in order: 20, 21, 22.
+/* Runs a sheet on lent numbers: 3 (fewer than JUWENFO_LENT), the refusals of juwenfo_judge, then the lines in order: 20, 21, 22. The first JUWENFO_LENT numbers are
+ * what the registers hold before the first line; an `in` line is 22 where its register's number is outside. Any number may stand in a register without an `in` line.
  * number 0: done, and the first JUWENFO_LENT numbers are the registers after the last line. After 20, 21 or 22 they are the registers before that
- * line. After a refusal all are as lent. */
+ * line, where those that no line has put are as lent; after 22 all are. After a refusal all are as lent. */
 JUWENFO_ANSWERS juwenfo_verdict juwenfo_run(const uint8_t *text, size_t text_len, int64_t *lent, size_t lent_len);
 
 /* ---- parts that write text

@@ -381,7 +381,7 @@ def run(text, lent):
     if len(lent) < REGS: return ('refused', 3, 0), lent
     lines = judge(text)
     if isinstance(lines, tuple): return ('refused',) + lines, lent
-    state = [0] * REGS
+    state = lent[:REGS]    # what was there: the controllers clear nothing, 02 (vi)
     try:
         for n, line in enumerate(lines, 1):
             if line[0] == 'in':
@@ -417,7 +417,7 @@ def check_sets(text):
     """('pass', N, sets) / ('stop', n, line) / ('refused', n, line), for long enough slices"""
     lines = judge(text)
     if isinstance(lines, tuple): return ('refused',) + lines
-    sets = [[(0, 0)] for _ in range(REGS)]
+    sets = [[(MIN, MAX)] for _ in range(REGS)]    # whatever number was there, 02 (vi)
     try:
         for n, line in enumerate(lines, 1):
             if line[0] == 'in': sets[line[1]] = [(line[2], line[3])]
@@ -520,4 +520,10 @@ if __name__ == '__main__':
     assert close(2, singles(MIN, 0, MAX)) == [(MIN, MIN), (0, MAX)] and close(1, singles(MIN, MAX)) == [(MIN, MAX)]
     assert listing(eight + b'(put 3 (div (reg 2) (sub (mul 9 (reg 1)) (add 1 (mul 7 (reg 1))))))\n').endswith(b'r3 -11000..-9000 -8000..-8000 -7000..-7000 -6000..-6000 -5000..-5000 '
         b'-4000..-4000 -1375..-500 500..1375 4000..4000 5000..5000 6000..6000 7000..7000 8000..8000 9000..9000 10000..10000 11000..11000\n')
+    assert listing(b'(hold 0 0 0)\n') == b'stop 21 1\n' and listing(b'(hold 0 -9223372036854775.808 9223372036854775.807)\n') == b'pass 1\n'
+    assert check_sets(b'')[2] == [[(MIN, MAX)]] * REGS and check_sets(b'(in 1 0 2)\n')[2][:3] == [[(MIN, MAX)], [(0, 2000)], [(MIN, MAX)]]
+    dirty = list(range(MAX - 15, MAX + 1))
+    assert run(b'', dirty + [7]) == (('done', 0), dirty + [7]) and run(b'(put 1 5)\n(in 0 0 1)\n', dirty) == (('refused', 8, 2), dirty)
+    assert run(b'(put 1 5)\n(hold 2 0 1)\n', dirty) == (('stop', 21, 2), dirty[:1] + [5000] + dirty[2:])
+    assert run(b'(in 0 0 9)\n(in 1 0 1)\n', [5000, 9000] + dirty[2:]) == (('stop', 22, 2), [5000, 9000] + dirty[2:])
     print('marked values agree')

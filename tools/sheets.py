@@ -363,7 +363,7 @@ def hidden_zeros():
         add(some + '(put 2 (div (add (reg 1) 1) (reg 3)))\n', lent_at(r3=1))
     add(sixteen + '(put 2 (rem (reg 1) (mul 100 %s)))\n' % bit)
     add(sixteen + '(put 2 (rem (neg (reg 1)) (mul 100 %s)))\n' % bit)
-    # a zero divisor alone, which leaves no interval
+    # a zero divisor alone, which leaves no interval, and all numbers as divisors
     add(sixteen + '(put 2 (div (reg 1) 0))\n')
     add(sixteen + '(put 2 (rem (reg 1) (reg 2)))\n')
     # crowded, and 0 is no divisor: gaps are closed. In the first two it lies between the divisors
@@ -412,7 +412,7 @@ def hidden_zeros():
     add(sixteen + '(put 2 %s)\n(hold 1 0 1)\n' % left_over)
     add(sixteen + '(hold 1 0 1)\n(put 2 %s)\n' % left_over)
     add(sixteen + '(put 2 %s)\n(in 2 0 1)\n' % divided)
-    # ranges that leave one number on the left and one divisor: a pass
+    # ranges that leave one number on the left and one divisor: a pass; all numbers in their place: 20
     add(sixteen.replace('(in 0 -1 1)', '(in 0 -1 0)') + '(put 2 %s)\n(put 3 %s)\n' % (divided, left_over), runs)
     add(sixteen.split('\n', 1)[1] + '(put 2 %s)\n(put 3 %s)\n' % (divided, left_over))
     # behind lines that pass: on the second line, behind every kind of line, and on the last of 256
@@ -521,6 +521,76 @@ def closings():
     for lent, sets, work in ((20, 540, 8200), (15, 527, 8192), (16, 528, 8191)): add(sixteen + more % 1, [500 + i for i in range(lent)], sets, work)
 
 
+# ---- registers that start with what was there: document 02 (vi)
+
+LEFT = [7001, -5, MAX, MIN, 250, -9000, MAX - 1, MIN + 1, 1, -1, 3000, 42, -77, 123456789, -1000000, 15]
+WHOLE = '-9223372036854775.808 9223372036854775.807'
+
+
+def lent_but(**registers):
+    got = list(LEFT)
+    for name, z in registers.items(): got[int(name[1:])] = z
+    return got
+
+
+def dirty():
+    # no lines: the numbers stay, whatever they are, and those past the first 16
+    for lent in (LEFT, [MIN] * 16, [MAX] * 16, LEFT + [5, 6, 7, 8]): add('', lent)
+    # a hold of a register that no line wrote: only the whole range holds it, and a run goes by its number
+    for r in (0, 7, 15):
+        add('(hold %d 0 0)\n' % r)
+        add('(hold %d %s)\n' % (r, WHOLE), LEFT)
+    add('(hold 0 0 0)\n', LEFT)
+    for ends in ('-9223372036854775.807 9223372036854775.807', '-9223372036854775.808 9223372036854775.806'):
+        for z in (MIN, MAX, 0): add('(hold 3 %s)\n' % ends, lent_but(r3=z))
+    add(('(hold 3 %s)\n' % WHOLE) * 255 + '(hold 3 0 0)\n', LEFT)
+    # sheets that relied on the 0, and the same with a line that writes it
+    relied = ('(put 1 (add (reg 1) 1))\n(hold 1 1 1)\n', '(put 2 (add 5 (reg 1)))\n(hold 2 5 5)\n', '(put 2 (mul 5 (reg 1)))\n(hold 2 0 0)\n', '(put 2 (not (reg 1)))\n(hold 2 1 1)\n',
+              '(put 2 (div 6 (add (reg 1) 2)))\n(hold 2 3 3)\n')
+    for text in relied:
+        add(text, LEFT)
+        for line in ('(in 1 0 0)\n', '(put 1 0)\n'): add(line + text, lent_but(r1=0))
+    # a 20 that became a pass: the wider set of a remainder joins what was apart, and other gaps are closed; and the same with a 0 in register 15
+    joined = ('(put 1 (lt (reg 0) 0.5))\n(put 2 (add (mul (reg 1) 10) (add (mul (reg 1) 20) (mul (reg 1) 40))))\n(put 2 (add (reg 2) (sub (mul (reg 1) 0.002) 0.001)))\n'
+              '(put 3 (add (abs (rem (reg 15) 0.3)) (add 1 (mul (reg 1) 0.3))))\n(put 4 (div 1 (mul (reg 2) (reg 3))))\n')
+    add('(in 0 0 1)\n' + joined, lent_but(r0=250))
+    add('(in 0 0 1)\n(put 15 0)\n' + joined, lent_but(r0=250))
+    # divisors that no line wrote: 20 in the check, by the number in a run
+    for op in ('div', 'rem'):
+        for z in (0, 2000): add('(put 0 7)\n(put 1 (%s (reg 0) (reg 2)))\n' % op, lent_but(r2=z))
+    for z in (-1000, 0): add('(put 1 (div 6 (add (reg 0) 1)))\n', lent_but(r0=z))
+    add('(in 1 1 2)\n(put 2 (div (reg 0) (reg 1)))\n(put 3 (rem (reg 0) (reg 1)))\n(hold 3 -1.999 1.999)\n', lent_but(r1=1500))
+    # each operation on whole sets
+    for op in ('neg', 'abs', 'not'): add('(put 1 (%s (reg 2)))\n(put 4 (%s (reg 3)))\n' % (op, op), LEFT)
+    for op in ('add', 'sub', 'mul', 'le', 'lt', 'ne', 'and', 'or'): add('(put 1 (%s (reg 2) (reg 6)))\n(put 4 (%s (reg 3) 1))\n(put 5 (%s (reg 9) (reg 9)))\n' % (op, op, op), LEFT)
+    add('(put 0 (reg 1))\n(put 1 (reg 2))\n(put 2 (reg 0))\n', LEFT)
+    for z in (MIN, MAX): add('(put 0 (add (reg 0) 1))\n(put 0 (neg (reg 0)))\n', lent_but(r0=z))
+    # `in` lines: cut before each of them; a lent number outside, at line 1, 2 and 3, and at both ends of a range; the numbers stay
+    ins = ('(in 5 0 9)\n', '(in 0 -1 1)\n', '(in 15 2 3)\n')
+    inside = lent_but(r5=9000, r0=-1000, r15=2500)
+    for n in (1, 2, 3): add(''.join(ins[:n]), inside)
+    for r, z in ((5, -1), (5, 9001), (0, -1001), (0, 1001), (15, 1999), (15, 3001)): add(''.join(ins), inside[:r] + [z] + inside[r + 1:])
+    add(''.join(ins), LEFT)
+    add(''.join(ins) + '(put 5 1)\n(put 4 (add (reg 0) (reg 15)))\n(hold 15 2 3)\n', inside)
+    add('(in 2 %s)\n(in 3 %s)\n(put 4 (reg 2))\n' % (WHOLE, WHOLE), LEFT)
+    # runs that stop behind puts, and on the first line: what no line wrote stays
+    add(''.join(ins) + '(put 5 1)\n(put 1 2)\n(hold 2 0 0)\n(put 3 3)\n', inside)
+    add('(put 0 1)\n(put 4 2)\n(put 0 (div (reg 4) (sub (reg 0) 1)))\n', LEFT)
+    add('(put 3 4)\n(put 4 (add (reg 3) (reg 5)))\n(put 1 (rem 1 (sub (reg 4) (reg 4))))\n', LEFT + [8, 9])
+    add('(put 9 (div (reg 8) 0))\n', LEFT)
+    # texts that are refused, and a slice that is too short
+    for text in ('x\n', '(put 0 1)\n(in 1 0 1)\n'): add(text, LEFT)
+    add('(put 0 1)\n', LEFT[:15])
+    # what is listed: an `in` or a `put`, with a whole set too, and no `hold` or `reg`
+    add('(in 3 0 1)\n(put 3 (reg 4))\n', lent_but(r3=500))
+    add('(hold 3 %s)\n(hold 12 %s)\n' % (WHOLE, WHOLE), LEFT)
+    add('(in 9 -1 1)\n(in 15 2 3)\n(in 0 -5 -4)\n(put 14 (reg 3))\n(put 1 (reg 9))\n(hold 8 %s)\n' % WHOLE, lent_at(r9=1, r15=2500, r0=-4500))
+    # a 0 that a line puts: as a right argument, as the only divisor of a crowded set, before a division and a remainder
+    for op in ('add', 'sub', 'mul', 'div', 'rem', 'le', 'lt', 'ne', 'and', 'or'): add('(put 0 0)\n(put 1 (%s 5 5))\n(put 2 (%s (reg 1) (reg 0)))\n' % (op, op), LEFT)
+    add(bits(4, 2) + '(put 2 0)\n(put 2 (rem (reg 1) (reg 2)))\n', lent_but(r0=500))
+    add('(put 0 0)\n' + sums(1, '0', '2', '4', '8', '16') + '(put 2 (div (reg 1) (mul 2 %s)))\n(put 3 (rem (reg 1) (mul 100 %s)))\n' % (BIT, BIT), LEFT)
+
+
 # ---- writing
 
 KINDS = {'done': 0, 'pass': 0, 'stop': 1, 'refused': 2}
@@ -557,7 +627,7 @@ def record(i, text, lent, sets, work):
 def main():
     own = '(in 0 -1 2)\n(put 1 (mul (reg 0) 2.5))\n(hold 1 -3 5)\n'
     add(own, lent_at(r0=1500))
-    for part in (texts, damaged, depths, literals, orders, operations, stops, crowds, slices, wraps, rambles, pages, hidden_zeros, closings): part()
+    for part in (texts, damaged, depths, literals, orders, operations, stops, crowds, slices, wraps, rambles, pages, hidden_zeros, closings, dirty): part()
     seen = {}
     for text, lent, sets, work in CASES:
         v = rules.check(text, [0] * sets, [0] * work)[0]

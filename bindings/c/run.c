@@ -1,6 +1,6 @@
-/* Runs the sheet on standard input on the numbers lent to registers 0, 1 .., and prints the registers in thousandths: those after the last line, or
- * those before the line at which the run stops: run NUMBER.. < SHEET. A number is written as in a sheet. The status is 0 after the last line, 1 after a
- * refusal or a finding, and 2 where there is no answer. */
+/* Runs the sheet on standard input on the numbers lent to registers 0, 1 .. (0 where none is), and prints the registers in thousandths: those after
+ * the last line, or those before the line at which the run stops: run NUMBER.. < SHEET. A number is written as in a sheet. The status is 0 after the
+ * last line, 1 after a refusal or a finding, and 2 where there is no answer. */
 #include "juwenfo.h"
 #include <inttypes.h>
 #include <stdio.h>

@@ -139,7 +139,32 @@ static void sheets(void) {
     expect(v.number == 0 && v.count == 3 && lent[1] == 3750, "run");
     lent[0] = 9000;
     v = juwenfo_run(text, n, lent, JUWENFO_LENT);
-    expect(v.number == 22 && v.line == 1, "run, stopped");
+    expect(v.number == 22 && v.line == 1 && lent[0] == 9000 && lent[1] == 3750, "run, stopped");
+}
+
+/* A register that no line has written holds what was left there. */
+static void dirty(void) {
+    static const uint8_t held[] = "(hold 0 0 0)\n", text[] = "(in 0 0 9)\n(in 1 0 1)\n(put 2 (add (reg 0) (reg 3)))\n(hold 4 0 0)\n";
+    juwenfo_verdict v = juwenfo_check(held, sizeof held - 1, bands, JUWENFO_SETS, work, JUWENFO_WORK);
+    expect(v.number == 21 && v.line == 1, "check, a hold of what was left");
+    v = juwenfo_check(NULL, 0, bands, JUWENFO_SETS, work, JUWENFO_WORK);
+    const int64_t *last = bands + 15 * JUWENFO_SLOT;
+    expect(v.number == 0 && last[0] == 1 && last[1] == INT64_MIN && last[2] == INT64_MAX && last[3] == 0, "check, no lines");
+    int64_t lent[JUWENFO_LENT + 1];
+    for (int i = 0; i <= JUWENFO_LENT; i++)
+        lent[i] = 100 * i;
+    lent[4] = 0;
+    v = juwenfo_run(text, sizeof text - 1, lent, JUWENFO_LENT + 1);
+    expect(v.number == 0 && lent[0] == 0 && lent[1] == 100 && lent[2] == 300 && lent[3] == 300 && lent[15] == 1500 && lent[16] == 1600, "run, numbers left");
+    lent[3] = INT64_MAX;
+    lent[4] = INT64_MIN;
+    v = juwenfo_run(text, sizeof text - 1, lent, JUWENFO_LENT);
+    expect(v.number == 21 && v.line == 4 && lent[2] == INT64_MAX && lent[3] == INT64_MAX && lent[4] == INT64_MIN && lent[15] == 1500, "run, stopped at a hold of what was left");
+    lent[1] = 1001;
+    lent[2] = -7;
+    v = juwenfo_run(text, sizeof text - 1, lent, JUWENFO_LENT);
+    expect(v.number == 22 && v.line == 2 && lent[0] == 0 && lent[1] == 1001 && lent[2] == -7 && lent[4] == INT64_MIN, "run, stopped, as lent");
+    expect(juwenfo_run(NULL, 0, lent, JUWENFO_LENT).number == 0 && lent[1] == 1001 && lent[4] == INT64_MIN, "run, no lines");
 }
 
 static uint8_t lines[JUWENFO_PAGE + 1];
@@ -193,7 +218,8 @@ static void pages(void) {
     writes(juwenfo_page, "(in 15 -9223372036854775.808 9223372036854775.807)\n", JUWENFO_PAGE, 0, 0,
            "r15 -9223372036854775808.. 9223372036854775807 18446744073709551616     \n", "page of the whole range");
     writes(juwenfo_page, "", JUWENFO_PAGE, 0, 0, "", "page of an empty sheet");
-    writes(juwenfo_page, "(hold 0 0 0)\n", 0, 0, 0, "", "page without lines, no out");
+    writes(juwenfo_page, "(hold 0 -9223372036854775.808 9223372036854775.807)\n", 0, 0, 0, "", "page without lines, no out");
+    writes(juwenfo_page, "(put 5 (reg 6))\n", JUWENFO_PAGE, 0, 0, "r5  -9223372036854775808.. 9223372036854775807 18446744073709551616     \n", "page of what was left");
     expect(juwenfo_page(NULL, 0, NULL, 0).number == 0, "page, no bytes at all");
     writes(juwenfo_page, "(put 0 1)\n(hold 0 2 3)\n", 0, 21, 2, "", "page of a finding, no out");
     writes(juwenfo_page, "(put 0 (div 1 0))\n", JUWENFO_PAGE, 20, 1, "", "page of a finding");
@@ -209,6 +235,7 @@ int main(void) {
     sets();
     members();
     sheets();
+    dirty();
     closed();
     listings();
     pages();

@@ -231,7 +231,7 @@ def judge(text):
 
 
 def check(text):
-    """Checks a sheet: the set of each of the 16 registers after the last line."""
+    """Checks a sheet: the set of each of the 16 registers after the last line; of one that no line wrote, [(MIN, MAX)]."""
     sets, work = (ctypes.c_int64 * (SLOT * REGISTERS))(), (ctypes.c_int64 * WORK)()
     _count(_check(text, len(text), sets, len(sets), work, len(work)))
     slots = [sets[SLOT * r : SLOT * (r + 1)] for r in range(REGISTERS)]
@@ -239,7 +239,8 @@ def check(text):
 
 
 def run(text, lent=()):
-    """Runs a sheet on the numbers lent to registers 0, 1 .. (0 where none is): the 16 numbers after the last line. Trouble 20 to 22 has those before it."""
+    """Runs a sheet on the numbers that registers 0, 1 .. hold before it (0 where none is lent): the 16 numbers after the last line. A register that no line
+    puts keeps its number. Trouble 20 to 22 has the numbers before its line."""
     if len(lent) > REGISTERS:
         raise ValueError("%d numbers are lent to %d registers" % (len(lent), REGISTERS))
     numbers = _slice(list(lent) + [0] * (REGISTERS - len(lent)))

@@ -1,5 +1,5 @@
-"""Runs a sheet on the numbers lent to registers 0, 1 .., and prints the registers in thousandths: those after the last line, or those before the line
-at which the run stops: python3 run.py ../../samples/scope.sheet 1.5
+"""Runs a sheet on the numbers lent to registers 0, 1 .. (0 where none is), and prints the registers in thousandths: those after
+the last line, or those before the line at which the run stops: python3 run.py ../../samples/scope.sheet 1.5
 A number is written as in a sheet. The status is 0 after the last line, 1 after a refusal or a finding, and 2 where there is no answer."""
 import os
 import sys

@@ -77,7 +77,7 @@ class Calls(unittest.TestCase):
 
     def test_sheets(self):
         self.assertEqual([j.line(SHEET, 1), j.line(SHEET, 0), j.line(SHEET, 4), j.judge(SHEET)], [b"(in 0 -1 2)", b"", b"", 3])
-        self.assertEqual(j.check(SHEET)[:3], [[(-1000, 2000)], [(-2500, 5000)], [(0, 0)]])
+        self.assertEqual(j.check(SHEET)[:3], [[(-1000, 2000)], [(-2500, 5000)], [(MIN, MAX)]])
         self.assertEqual(j.run(SHEET, [1500])[:3], [1500, 3750, 0])
         for call, number, line in ((lambda: j.check(b"(hold 0 1 2)\n"), 21, 1), (lambda: j.judge(b"x"), 5, 0), (lambda: j.run(SHEET, [2001]), 22, 1)):
             with self.assertRaises(j.Trouble) as e:
@@ -87,6 +87,17 @@ class Calls(unittest.TestCase):
             j.run(b"(in 0 0 9)\n(put 1 2)\n(hold 0 0 1)\n", [5000])
         self.assertEqual((e.exception.number, e.exception.line, e.exception.registers[:3]), (21, 3, [5000, 2000, 0]))
         self.assertRaises(ValueError, j.run, SHEET, [0] * 17)
+
+    def test_dirty_start(self):
+        text, left = b"(in 0 0 9)\n(in 1 0 1)\n(put 2 (add (reg 0) (reg 3)))\n(hold 4 0 0)\n", [100 * i for i in range(16)]
+        self.assertEqual([j.check(b""), j.run(b"", left), j.listing(b"(hold 0 0 0)\n")], [[[(MIN, MAX)]] * 16, left, b"stop 21 1\n"])
+        self.assertEqual(j.listing(b"(hold 0 -9223372036854775.808 9223372036854775.807)\n"), b"pass 1\n")
+        self.assertEqual(j.run(text, left[:4] + [0] + left[5:]), left[:2] + [300, 300, 0] + left[5:])
+        stops = ((left[:3] + [MAX, MIN] + left[5:], 21, 4, left[:2] + [MAX, MAX, MIN] + left[5:]), ([0, 1001] + left[2:], 22, 2, [0, 1001] + left[2:]), ([-1] + left[1:], 22, 1, [-1] + left[1:]))
+        for lent, number, line, after in stops:
+            with self.assertRaises(j.Trouble) as e:
+                j.run(text, lent)
+            self.assertEqual((e.exception.number, e.exception.line, e.exception.registers), (number, line, after))
 
     def test_closed_gaps(self):
         sheet = b"(in 0 0 9)\n(put 1 (lt (reg 0) 5))\n(put 2 (add (reg 1) (mul 2 (reg 1))))\n(put 3 (add (reg 2) (mul 4 (reg 2))))\n(put 4 (add (reg 3) (reg 1)))\n"
@@ -101,7 +112,7 @@ class Calls(unittest.TestCase):
         self.assertEqual(j.page(SHEET), answer)
         whole = b"(in 15 -9223372036854775.808 9223372036854775.807)\n"
         self.assertEqual(j.page(whole), b"r15 -9223372036854775808.. 9223372036854775807 18446744073709551616     \n")
-        self.assertEqual([j.page(b""), j.page(b"(hold 0 0 0)\n")], [b"", b""])
+        self.assertEqual([j.page(b""), j.page(b"(hold 0 -9223372036854775.808 9223372036854775.807)\n")], [b"", b""])
         troubles = ((b"(put 0 1)\n(hold 0 2 3)\n", 21, 2), (b"(put 0 (div 1 0))\n", 20, 1), (b"(put 0 1)\nx\n", 6, 2), (b"x", 5, 0))
         for text, number, line in troubles:
             with self.assertRaises(j.Trouble) as e:

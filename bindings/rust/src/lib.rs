@@ -61,7 +61,8 @@ pub fn judge(text: &[u8]) -> Result<usize, Trouble> {
 }
 
 /// Checks a sheet: how many lines it has if it passes. The first [`SETS`] numbers of `sets` are then the registers' sets after the last line; otherwise
-/// `sets` is as lent. `work` needs [`WORK`] numbers, which are 0 afterwards unless the sheet was refused with 3 or 5 to 8.
+/// `sets` is as lent. `work` needs [`WORK`] numbers, which are 0 afterwards unless the sheet was refused with 3 or 5 to 8. The set of a register that no line
+/// has written is that from MIN to MAX.
 pub fn check(text: &[u8], sets: &mut [i64], work: &mut [i64]) -> Result<usize, Trouble> {
     verdict(unsafe { sys::juwenfo_check(text.as_ptr(), text.len(), sets.as_mut_ptr(), sets.len(), work.as_mut_ptr(), work.len()) })
 }
@@ -73,8 +74,8 @@ pub fn ends(sets: &[i64], register: usize) -> &[i64] {
     &slot[1..1 + 2 * slot[0] as usize]
 }
 
-/// Runs a sheet on the numbers that are lent for its `in` lines: how many lines it has if it is done. The first [`LENT`] numbers are then the registers
-/// after the last line, after 20 to 22 those before that line, and after a refusal they are as lent.
+/// Runs a sheet on the numbers that its registers hold before the first line, the first [`LENT`] of `lent`: how many lines it has if it is done. They are then the
+/// registers after the last line, after 20 to 22 those before that line, and after a refusal they are as lent. A register that no line puts keeps its number.
 pub fn run(text: &[u8], lent: &mut [i64]) -> Result<usize, Trouble> {
     verdict(unsafe { sys::juwenfo_run(text.as_ptr(), text.len(), lent.as_mut_ptr(), lent.len()) })
 }

@@ -133,7 +133,7 @@ fn lines() {
 fn sheets() {
     let (mut sets, mut work) = (vec![OLD; SETS + 1], vec![OLD; WORK + 1]);
     assert_eq!(check(SHEET, &mut sets, &mut work), Ok(3));
-    assert_eq!((ends(&sets, 0), ends(&sets, 1), ends(&sets, 2)), (&[-1000, 2000][..], &[-2500, 5000][..], &[0, 0][..]));
+    assert_eq!((ends(&sets, 0), ends(&sets, 1), ends(&sets, 2)), (&[-1000, 2000][..], &[-2500, 5000][..], &[MIN, MAX][..]));
     assert!(work[..WORK].iter().all(|&x| x == 0) && work[WORK] == OLD && sets[SETS] == OLD);
     assert_eq!(check(b"(hold 0 1 2)\n", &mut sets, &mut work), Err(Trouble { number: 21, line: 1 }));
     assert_eq!(check(b"(put 0 (div 1 (reg 0)))\n", &mut sets, &mut work), Err(Trouble { number: 20, line: 1 }));
@@ -142,11 +142,35 @@ fn sheets() {
     let mut lent = [OLD; 17];
     lent[0] = 1500;
     assert_eq!(run(SHEET, &mut lent), Ok(3));
-    assert_eq!((lent[0], lent[1], lent[2], lent[16]), (1500, 3750, 0, OLD));
+    assert_eq!((lent[0], lent[1], &lent[2..]), (1500, 3750, &[OLD; 15][..]));
     lent[0] = 2001;
     assert_eq!(run(SHEET, &mut lent), Err(Trouble { number: 22, line: 1 }));
-    assert_eq!((lent[0], lent[1]), (0, 0));
+    assert_eq!((lent[0], lent[1], &lent[2..]), (2001, 3750, &[OLD; 15][..]));
     assert_eq!(run(SHEET, &mut lent[..15]), Err(Trouble { number: 3, line: 0 }));
+}
+
+#[test]
+fn dirty_start() {
+    let (mut sets, mut work) = (vec![OLD; SETS], vec![OLD; WORK]);
+    assert_eq!(check(b"(hold 0 0 0)\n", &mut sets, &mut work), Err(Trouble { number: 21, line: 1 }));
+    assert_eq!(check(b"(hold 0 -9223372036854775.808 9223372036854775.807)\n", &mut sets, &mut work), Ok(1));
+    assert!((0..16).all(|r| ends(&sets, r) == [MIN, MAX]));
+    let text = b"(in 0 0 9)\n(in 1 0 1)\n(put 2 (add (reg 0) (reg 3)))\n(hold 4 0 0)\n";
+    let left: [i64; 17] = core::array::from_fn(|i| 100 * i as i64);
+    let mut lent = left;
+    lent[4] = 0;
+    assert_eq!(run(text, &mut lent), Ok(4));
+    assert_eq!((&lent[..5], &lent[5..]), (&[0, 100, 300, 300, 0][..], &left[5..]));
+    (lent[3], lent[4]) = (MAX, MIN);
+    assert_eq!(run(text, &mut lent), Err(Trouble { number: 21, line: 4 }));
+    assert_eq!((&lent[..5], &lent[5..]), (&[0, 100, MAX, MAX, MIN][..], &left[5..]));
+    for (r, z, line) in [(1, 1001, 2), (0, -1, 1)] {
+        lent[r] = z;
+        let before = lent;
+        assert_eq!(run(text, &mut lent), Err(Trouble { number: 22, line }));
+        assert_eq!(lent, before);
+    }
+    assert_eq!((run(b"", &mut lent), lent[0], lent[2]), (Ok(0), -1, MAX));
 }
 
 #[test]
@@ -192,7 +216,7 @@ fn pages() {
     assert_eq!((paged(SHEET, 145), paged(SHEET, 0)), (Err(SHORT), Err(SHORT)));
     let whole = "r15 -9223372036854775808.. 9223372036854775807 18446744073709551616     \n";
     assert_eq!(paged(b"(in 15 -9223372036854775.808 9223372036854775.807)\n", PAGE), Ok(whole.to_string()));
-    assert_eq!((paged(b"", PAGE), paged(b"", 0), paged(b"(hold 0 0 0)\n", 0)), (Ok(String::new()), Ok(String::new()), Ok(String::new())));
+    assert_eq!((paged(b"", PAGE), paged(b"", 0), paged(b"(hold 0 -9223372036854775.808 9223372036854775.807)\n", 0)), (Ok(String::new()), Ok(String::new()), Ok(String::new())));
     for room in [0, PAGE] {
         assert_eq!(paged(b"(put 0 1)\n(hold 0 2 3)\n", room), Err(Trouble { number: 21, line: 2 }));
         assert_eq!(paged(b"(put 0 (div 1 0))\n", room), Err(Trouble { number: 20, line: 1 }));

@@ -5,7 +5,7 @@ use answers::for_check;
 use answers::for_run;
 use answers::for_text;
 ghost use mathlib.Core.Path.{_≡_};
-ghost use Rattle.meaning.specs.Run.{verdict, runCall, runLent};
+ghost use Rattle.meaning.specs.Run.{verdict, runCall, runLent, Ranged};
 ghost use Rattle.meaning.specs.Check.{checkCall, checkSets, checkWork};
 ghost use Rattle.meaning.specs.Composing.{textReturns, textLeaves};
 ghost use Rattle.meaning.specs.Listing.{listingPart};
@@ -17,6 +17,7 @@ ghost use Rattle.answers.specs.Answers.{verdictOf, textOf};
 pub extern "C" fn juwenfo_run(text: &[u8], lent: &mut [i64]) -> Verdict
     ensures { λ r. ⌜ verdictOf r ≡ verdict (runCall (now (text .entry)) (now (lent .entry))) ⌝ }
     ensures { λ r. ⌜ now (lent .exit) ≡ runLent (now (text .entry)) (now (lent .entry)) ⌝ }
+    ensures { λ r. ⌜ Ranged (now (text .entry)) (now (lent .entry)) ⌝ }
 {
     for_run(run::run(text, lent))
 }

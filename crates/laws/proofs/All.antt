@@ -30,6 +30,12 @@ module _ {A : Type 0} (P : A → Type 0) where
   all-get (x ∷ l) zero d h p = p .0
   all-get (x ∷ l) (suc i) d h p = all-get l i d h (p .1)
 
+  -- one number more
+  pub all-next : (l : List A) (i : ℕ) (d : A) → i < length l → All P (take i l) → P (getD l i d) → All P (take (suc i) l)
+  all-next [] i d h p q = absurd (let x : ⊥ = omega arith in x)
+  all-next (x ∷ l) zero d h p q = (q, tt)
+  all-next (x ∷ l) (suc i) d h p q = (p .0, all-next l i d (omega arith) (p .1) q)
+
   pub all-set : (l : List A) (i : ℕ) (a : A) → P a → All P l → All P (set l i a)
   all-set [] i a h p = tt
   all-set (x ∷ l) zero a h p = (h, p .1)

@@ -12,7 +12,7 @@ use Prim.Native.Nat.{ℕ, _≤_}
 use Rattle.meaning.specs.Refusals.{zeroDivisor, holdBroken}
 use Rattle.meaning.specs.Lists.{All}
 use Rattle.meaning.specs.Outcome.{ok, done}
-use Rattle.meaning.specs.Number.{InRange, eqZ, Op1, Op2, add, sub, mul, div, rem, le, lt, ne, and, or, point1, point2, quotient, remainder}
+use Rattle.meaning.specs.Number.{MIN, MAX, InRange, eqZ, Op1, Op2, add, sub, mul, div, rem, le, lt, ne, and, or, point1, point2, quotient, remainder}
 use Rattle.meaning.specs.Interval.{span, only}
 use Rattle.meaning.specs.NumberIntervals.{Set, _∈_, here, Normal, set1, set2, flag1, flag2}
 use Rattle.meaning.specs.Sheet.{registers, Form, lit, reg, form1, form2, put, hold, Line, input, act, FineForm, FineAct, FineLine}
@@ -24,6 +24,7 @@ use Rattle.meaning.specs.Demand2.{FlagIs, Demand2}
 use Rattle.meaning.specs.CheckSets.{SoundSet, SoundBands, stateOf, CheckSets, ClosedAnswer, FormSetsAt, FormSets}
 use Rattle.laws.proofs.Integers.{zarith, clash, by-test, if-no, eqZ-is}
 use Rattle.laws.proofs.Members.{between, in-only}
+use Rattle.laws.proofs.Spread.{proper-whole}
 use Rattle.laws.proofs.All.{all-get, all-set, all-replicate, all-take}
 use Rattle.laws.proofs.Work.{ok-same, bind-ok, guard-ok, unless-ok, work-keeps, judge-worked}
 use Rattle.laws.proofs.CloseLaws.{close-few, close-normal, close-keeps, close-is}
@@ -37,6 +38,10 @@ span-normal lo hi l h o = (record { low = l .above; ordered = o; high = h .below
 
 pub zero-normal : Normal (only (pos 0))
 zero-normal = (record { low = omega zarith; ordered = omega zarith; high = omega zarith }, tt, tt)
+
+-- the start
+pub whole-normal : Normal (span MIN MAX)
+whole-normal = (proper-whole, tt, tt)
 
 -- ---- a form's answer
 
@@ -87,6 +92,9 @@ module _ (d : Demand2) where
 
     pub zero-sound : SoundSet limit (only (pos 0))
     zero-sound = record { normal = zero-normal; filled = (pos 0, in-only (pos 0)); few = enough }
+
+    whole-sound : SoundSet limit (span MIN MAX)
+    whole-sound = record { normal = whole-normal; filled = (MIN, here (between (≤ℤ-refl MIN) (proper-whole .ordered))); few = enough }
 
     settled-few : {s : Set} {flag : Bool} {s′ : Set} → Settled limit s flag s′ → length s′ ≤ limit
     settled-few {s} k = rw (k .is) (close-few limit s enough)
@@ -152,7 +160,7 @@ module _ (d : Demand2) where
       pub sets-sound : All (SoundSet limit) (B .sets)
 
     pub start-kept : Kept startSets
-    start-kept = record { size = length-replicate registers (only (pos 0)); sets-sound = all-replicate (SoundSet limit) registers (only (pos 0)) zero-sound }
+    start-kept = record { size = length-replicate registers (span MIN MAX); sets-sound = all-replicate (SoundSet limit) registers (span MIN MAX) whole-sound }
 
     give-kept : {B : Bands} (r : ℕ) {s : Set} → Kept B → SoundSet limit s → Kept (give B r s)
     give-kept {B} r {s} h n = record { size = length-set (B .sets) r s ∙ h .size; sets-sound = all-set (SoundSet limit) (B .sets) r s n (h .sets-sound) }

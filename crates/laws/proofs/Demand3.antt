@@ -11,9 +11,10 @@ use mathlib.Core.Option.{some}
 use Prim.Native.Nat.{ℕ, zero, suc, _+_, _<_, _≤_}
 use native.Mathlib.Nat.{le-of-suc-le-suc}
 use native.Mathlib.Omega.{arith}
+use Rattle.meaning.specs.Lists.{All}
 use Rattle.meaning.specs.Refusals.{zeroDivisor, holdBroken, outsideIn}
 use Rattle.meaning.specs.Outcome.{Res, ok, stop, bind, orStop, done, work, nextLine}
-use Rattle.meaning.specs.Number.{Op2, point1, point2}
+use Rattle.meaning.specs.Number.{MIN, MAX, InRange, Op2, point1, point2}
 use Rattle.meaning.specs.Interval.{span, only}
 use Rattle.meaning.specs.NumberIntervals.{Set, _∈_, here, Normal, set1, set2, flag1, flag2}
 use Rattle.meaning.specs.Sheet.{registers, Form, lit, reg, form1, form2, Act, put, hold, Line, input, act, FineForm, FineAct, FineLine}
@@ -21,7 +22,7 @@ use Rattle.meaning.specs.Text.{sheet, read}
 use Rattle.meaning.specs.Run.{valueOf, runAct, runLine, startNumbers, run, stateAfter, worked, judge, runText, Allowed, LentInside}
 use Rattle.meaning.specs.Check.{Bands, at, inside, give, setOf, checkAct, checkLine, startSets, check, setBy, actBy, lineBy, checkBy, textBy}
 use Rattle.meaning.specs.Demand2.{Demand2}
-use Rattle.meaning.specs.Demand3.{Members, SafeAt, Safe, Safety}
+use Rattle.meaning.specs.Demand3.{Members, SafeAt, Safe, Numbers, Safety}
 use Rattle.laws.proofs.Integers.{between-within}
 use Rattle.laws.proofs.Members.{in-only}
 use Rattle.laws.proofs.All.{all-both}
@@ -30,7 +31,7 @@ use Rattle.laws.proofs.Cut.{read-cut, read-whole}
 use Rattle.laws.proofs.Fine.{read-fine}
 use Rattle.laws.proofs.Holds.{inside-all}
 use Rattle.laws.proofs.Demand2.{demand2}
-use Rattle.laws.proofs.CheckSets.{span-normal, zero-normal, Settled, settle-ok, settled-keeps, settled-normal, has-result, result1-in, result2-in}
+use Rattle.laws.proofs.CheckSets.{span-normal, zero-normal, whole-normal, Settled, settle-ok, settled-keeps, settled-normal, has-result, result1-in, result2-in}
 
 -- ---- each number in its set, and each set normal
 
@@ -53,9 +54,11 @@ paired-member none r h = absurd (let x : ⊥ = omega arith in x)
 paired-member (more m n e) zero h = m
 paired-member (more m n e) (suc r) h = paired-member e r (le-of-suc-le-suc h)
 
-paired-same : {z : ℤ} {s : Set} → z ∈ s → Normal s → (k : ℕ) → Paired (replicate k z) (replicate k s)
-paired-same m h zero = none
-paired-same m h (suc k) = more m h (paired-same m h k)
+-- any numbers, in [MIN,MAX]
+paired-whole : (k : ℕ) (l : List ℤ) → k ≤ length l → All InRange (take k l) → Paired (take k l) (replicate k (span MIN MAX))
+paired-whole zero l h r = none
+paired-whole (suc k) [] h r = absurd (let x : ⊥ = omega arith in x)
+paired-whole (suc k) (z ∷ l) h r = more (here (r .0)) whole-normal (paired-whole k l (le-of-suc-le-suc h) (r .1))
 
 -- ---- forms
 
@@ -81,9 +84,9 @@ pub record Matched (t : List ℤ) (B : Bands) : Type 0 where
   pub paired : Paired t (B .sets)
   pub size : length (B .sets) ≡ registers
 
-pub start-matched : (lent : List ℤ) → Matched (startNumbers lent) startSets
+pub start-matched : (lent : List ℤ) → Numbers lent → Matched (startNumbers lent) startSets
 unfolding startNumbers
-start-matched lent = record { paired = paired-same (in-only (pos 0)) zero-normal registers; size = length-replicate registers (only (pos 0)) }
+start-matched lent h = record { paired = paired-whole registers lent (h .enough) (h .ranged); size = length-replicate registers (span MIN MAX) }
 
 give-matched : {t : List ℤ} {B : Bands} {z : ℤ} {s : Set} → Matched t B → (r : ℕ) → z ∈ s → Normal s → Matched (set t r z) (give B r s)
 give-matched {B} {s} h r m n = record { paired = paired-set (h .paired) r m n; size = length-set (B .sets) r s ∙ h .size }
@@ -151,7 +154,7 @@ state-after lent ls (suc n) h =
 
 -- ---- the theorem, from demand 2
 
-module _ (d : Demand2) (limit : ℕ) (lent : List ℤ) (t : List ℕ) (ls : List Line) (r : read t ≡ sheet ls) {bands : Bands} (e : check limit ls ≡ done bands) (i : LentInside lent t) where
+module _ (d : Demand2) (limit : ℕ) (lent : List ℤ) (t : List ℕ) (ls : List Line) (r : read t ≡ sheet ls) {bands : Bands} (e : check limit ls ≡ done bands) (k : Numbers lent) (i : LentInside lent t) where
   -- check and run after n lines
   record Reached (n : ℕ) : Type 0 where
     bands-there : Bands
@@ -164,7 +167,7 @@ module _ (d : Demand2) (limit : ℕ) (lent : List ℤ) (t : List ℕ) (ls : List
   unfolding checkBy run
   reached n =
       let u = follows (checkLine limit) (runLine lent) Matched (λ l. FineLine l × Allowed lent l) (line-safe d limit lent) n 1 ls startSets (startNumbers lent)
-      (all-both FineLine (Allowed lent) ls (read-fine t r) (i .inside ls r)) (start-matched lent) e in
+      (all-both FineLine (Allowed lent) ls (read-fine t r) (i .inside ls r)) (start-matched lent k) e in
       record { bands-there = u .0; state-there = u .1; checked = u .2; ran = u .3; matched = u .4 }
 
   safe-at : (n : ℕ) → n ≤ length ls → SafeAt limit lent t ls n
@@ -201,9 +204,9 @@ module _ (d : Demand2) (limit : ℕ) (lent : List ℤ) (t : List ℕ) (ls : List
 
 pub safety-of : Demand2 → Safety
 unfolding textBy
-safety-of d limit t n bands lent e i =
+safety-of d limit t n bands lent e k i =
     let w = judge-worked (check limit) (read t) e in
-    subst (λ (k : ℕ). Safe limit lent t k bands) (w .count) (all-safe d limit lent t (w .lines) (w .reads) (w .gives) i)
+    subst (λ (m : ℕ). Safe limit lent t m bands) (w .count) (all-safe d limit lent t (w .lines) (w .reads) (w .gives) k i)
 
 -- a passed sheet is safe to run: nothing left open
 pub demand3 : Safety

@@ -1,7 +1,8 @@
 -- Demand 3 for the calls (meaning/specs/Demand3Calls.antt): with slices that are long enough the calls are the check and the run of the text, a trouble is never on line 0, the slots show the sets,
 -- and the run's state fills the numbers of the registers. Assumes nothing.
 use lib.IntN.{ℤ, pos}
-use lib.ListN.{getD, set, length, take, length-set, length-replicate}
+use lib.ListN.{getD, set, length, take, length-set}
+use lib.Seq.{length-take-le}
 use mathlib.Core.Path.{_≡_, refl, sym, ap, _∙_, subst}
 use mathlib.Core.Bool.{Bool, true, false, cond}
 use mathlib.Core.List.{List, [], _∷_}
@@ -123,23 +124,23 @@ any-line [] = tt
 any-line (l ∷ ls) = (tt, any-line ls)
 
 -- the last state of a run, or the state before the line that stopped it
-pub run-sized : (lent : List ℤ) (ls : List Line) → Sized (stateOf (run lent ls))
+pub run-sized : (lent : List ℤ) (ls : List Line) → registers ≤ length lent → Sized (stateOf (run lent ls))
 unfolding run startNumbers
-run-sized lent ls =
-    work-keeps (runLine lent) Sized (λ l. Unit {0}) (λ s l s′ p h e. line-sized lent s l s′ h e) 1 (startNumbers lent) ls (any-line ls) (length-replicate registers (pos 0))
+run-sized lent ls k =
+    work-keeps (runLine lent) Sized (λ l. Unit {0}) (λ s l s′ p h e. line-sized lent s l s′ h e) 1 (startNumbers lent) ls (any-line ls) (length-take-le registers lent k)
 
-done-sized : (t : List ℕ) (lent : List ℤ) {n : ℕ} {s : List ℤ} → runText lent t ≡ worked n (done s) → Sized s
+done-sized : (t : List ℕ) (lent : List ℤ) → registers ≤ length lent → {n : ℕ} {s : List ℤ} → runText lent t ≡ worked n (done s) → Sized s
 unfolding runText
-done-sized t lent e =
+done-sized t lent k e =
     let w = judge-worked (run lent) (read t) e in
-    subst Sized (ap stateOf (w .gives)) (run-sized lent (w .lines))
+    subst Sized (ap stateOf (w .gives)) (run-sized lent (w .lines) k)
 
 -- ---- the theorem
 
 pub demand3-calls : CallsSafety
 demand3-calls t sets work lent n h k e i =
     let p = fulfilled-done intervalLimit t (ap verdict (sym (check-call t sets work h)) ∙ e) in
-    let s = demand3 intervalLimit t n (p .0) lent (p .1) i in
+    let s = demand3 intervalLimit t n (p .0) lent (p .1) k i in
     record {
       lines = s .lines;
       reads = s .reads;
@@ -148,13 +149,13 @@ demand3-calls t sets work lent n h k e i =
       whole = s .whole;
       state = s .state;
       last = s .last;
-      ends = run-verdict t lent k (s .ends);
+      ends = run-verdict t lent (k .enough) (s .ends);
       leaves = front t (s .ends);
       members = λ r b. shown t sets work h (p .1) r b (s .members .member r b);
     }
   where
     front : (t : List ℕ) {m : ℕ} {s : List ℤ} → runText lent t ≡ worked m (done s) → take registers (runLent t lent) ≡ s
-    front t {m} {s} q = ap (take registers) (run-left t lent k q) ∙ take-is s (done-sized t lent q)
+    front t {m} {s} q = ap (take registers) (run-left t lent (k .enough) q) ∙ take-is s (done-sized t lent (k .enough) q)
       where
         take-is : (s : List ℤ) → Sized s → take registers (over s lent) ≡ s
         take-is s z = ap (λ (x : ℕ). take x (over s lent)) (sym z) ∙ take-over s lent
@@ -168,10 +169,10 @@ demand3-calls t sets work lent n h k e i =
     at ls m a =
         record {
           state = a .state;
-          sized = done-sized (cut t m) lent (a .runs);
+          sized = done-sized (cut t m) lent (k .enough) (a .runs);
           reaches = a .reaches;
           passes = λ sets′ work′ g. check-verdict (cut t m) sets′ work′ g (a .passes);
           members = λ sets′ work′ g r b. shown (cut t m) sets′ work′ g (a .passes) r b (a .members .member r b);
-          runs = run-verdict (cut t m) lent k (a .runs);
+          runs = run-verdict (cut t m) lent (k .enough) (a .runs);
           leaves = front (cut t m) (a .runs);
         }

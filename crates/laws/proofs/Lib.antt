@@ -41,6 +41,7 @@ pub mod Signs
 pub mod Slots
 pub mod Splits
 pub mod Spread
+pub mod Start
 pub mod Sums
 pub mod Troubles
 pub mod Work

@@ -2,7 +2,7 @@
 use mathlib.Core.Path.{_≡_, refl, sym, ap, _∙_}
 use mathlib.Core.List.{List, [], _∷_, _++_, append-assoc, append-nil}
 use borrow.Rule.Slice.PartMut.{midOf, putMid}
-use Prim.Native.Nat.{ℕ, suc, _+_, _-_, _≤_, _<_}
+use Prim.Native.Nat.{ℕ, zero, suc, _+_, _-_, _≤_, _<_}
 use native.Mathlib.Omega.{arith}
 use native.Mathlib.Nat.{zero-add}
 use native.Mathlib.Numerals.{add-one}
@@ -18,6 +18,13 @@ module _ {ℓ} {A : Type ℓ} where
   pub over-same : (xs l m : List A) → drop (length xs) l ≡ drop (length xs) m → over xs l ≡ over xs m
   unfolding over
   over-same xs l m e = ap (λ (r : List A). xs ++ r) e
+
+  -- a list over its own front
+  pub over-front : (n : ℕ) (l : List A) → over (take n l) l ≡ l
+  unfolding over
+  over-front zero l = refl
+  over-front (suc n) [] = refl
+  over-front (suc n) (x ∷ l) = ap (λ (r : List A). x ∷ r) (over-front n l)
 
   pub length-over : (xs old : List A) → length xs ≤ length old → length (over xs old) ≡ length old
   unfolding over

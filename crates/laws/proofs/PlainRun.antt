@@ -1,24 +1,28 @@
 -- The run is the plain run (meaning/specs/PlainRun.antt): a run that is stopped stays so, the line that stopped it met its trouble on the state that the lines before it had left, and the state after
 -- the last line is what the call returns and leaves. Assumes nothing.
-use lib.Dec.{leb}
+use lib.Dec.{leb, ltb}
 use lib.IntN.{ℤ, pos}
 use lib.ListN.{length, getD, take}
 use lib.Seq.{take-length}
 use borrow.Author.Tests.{leb-true, leb-false}
 use mathlib.Core.Path.{_≡_, refl, sym, ap, _∙_}
-use mathlib.Core.List.{List}
+use mathlib.Core.Bool.{Bool, true, false, cond}
+use mathlib.Core.List.{List, []}
 use Prim.Native.Nat.{ℕ, zero, suc, _≤_}
 use native.Mathlib.Omega.{arith}
+use Rattle.meaning.specs.Refusals.{tooShort, outsideIn}
 use Rattle.meaning.specs.Lists.{over}
-use Rattle.meaning.specs.Outcome.{Res, ok, stop, Outcome, done, stopped, onward, nextLine}
+use Rattle.meaning.specs.Outcome.{Res, ok, stop, Outcome, done, stopped, onward, work, nextLine}
 use Rattle.meaning.specs.Sheet.{registers, hold, Line, act}
-use Rattle.meaning.specs.Text.{sheet, read}
-use Rattle.meaning.specs.Run.{runLine, run, stateAfter, worked, judge, leftBy, runText, runCall, runLent}
+use Rattle.meaning.specs.Text.{splitLines, sheet, readLines, read}
+use Rattle.meaning.specs.Run.{runLine, startNumbers, run, stateAfter, Judged, refused, worked, judge, leftBy, runText, runCall, runLent}
 use Rattle.meaning.specs.CheckSets.{stateOf}
 use Rattle.meaning.specs.PlainRun.{StopsAt, PlainRun}
 use Rattle.laws.proofs.Integers.{by-test}
 use Rattle.laws.proofs.Lists.{getD-there}
-use Rattle.laws.proofs.Work.{not-stopped}
+use Rattle.laws.proofs.Work.{not-stopped, not-worked, judge-worked}
+use Rattle.laws.proofs.Over.{over-front}
+use Rattle.laws.proofs.Start.{outside-as-lent}
 use Rattle.laws.proofs.Demand3.{state-after}
 use Rattle.laws.proofs.Demand3Calls.{run-call, run-sized}
 
@@ -84,12 +88,36 @@ module _ (t : List ℕ) (ls : List Line) (lent : List ℤ) (r : read t ≡ sheet
   unfolding runLent
   leaves = ap (leftBy lent) returns ∙ left-state lent (length ls) (stateAfter lent ls (length ls))
 
+-- ---- numbers that stay as lent
+
+start-over : (lent : List ℤ) → over (startNumbers lent) lent ≡ lent
+unfolding startNumbers
+start-over lent = over-front registers lent
+
+outside-leaves : (t : List ℕ) (lent : List ℤ) (n l : ℕ) (s : List ℤ) → runCall t lent ≡ worked n (stopped outsideIn l s) → runLent t lent ≡ lent
+unfolding runCall runLent runText
+outside-leaves t lent n l s e = ap (leftBy lent) e ∙ ap (λ (x : List ℤ). over x lent) (go (ltb (length lent) registers) e) ∙ start-over lent
+  where
+    go : (short : Bool) → cond short (refused tooShort 0) (runText lent t) ≡ worked n (stopped outsideIn l s) → s ≡ startNumbers lent
+    go true q = not-worked q
+    go false q = let w = judge-worked (run lent) (read t) q in outside-as-lent lent t (w .lines) l s (w .reads) (w .gives)
+
+empty-leaves : (lent : List ℤ) → runLent [] lent ≡ lent
+unfolding runCall runLent runText run work read splitLines readLines
+empty-leaves lent = go (ltb (length lent) registers)
+  where
+    go : (short : Bool) → leftBy lent (cond short (refused tooShort 0) (runText lent [])) ≡ lent
+    go true = refl
+    go false = start-over lent
+
 pub plain-run : PlainRun
 plain-run = record {
   runs = λ lent ls n h. sym (state-after lent ls n h);
-  sized = λ lent ls n h. ap (λ o. length (stateOf o)) (state-after lent ls n h) ∙ run-sized lent (take n ls);
+  sized = λ lent ls n h k. ap (λ o. length (stateOf o)) (state-after lent ls n h) ∙ run-sized lent (take n ls) k;
   stops = stops;
   stops-only = λ lent ls k l s e. stops-by lent ls (length ls) k l s (omega arith) e;
   returns = returns;
   leaves = leaves;
+  outside-leaves = outside-leaves;
+  empty-leaves = empty-leaves;
 }

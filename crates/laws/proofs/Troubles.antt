@@ -43,7 +43,7 @@ among-all P k [] a h = never (sym h)
 among-all P k (n ∷ ns) a h = by-test (eqb k n) (λ t. subst P (sym (eqb-true k n t)) (a .0)) (λ t. among-all P k ns (a .1) (rw t at h))
 
 -- one of the numbers is not one that stands not among them
-not-among : {k j : ℕ} (ns : List ℕ) → among j ns ≡ false → Among k ns → k ≡ j → ⊥
+pub not-among : {k j : ℕ} (ns : List ℕ) → among j ns ≡ false → Among k ns → k ≡ j → ⊥
 not-among ns f h e = clash h (ap (λ (n : ℕ). among n ns) e ∙ f)
 
 -- ---- a value, or one of the numbers
@@ -56,6 +56,10 @@ bind-numbered : {A B : Type 0} (ns : List ℕ) (m : Res A) (f : A → Res B) →
 unfolding bind
 bind-numbered ns (ok a) f h k = k a
 bind-numbered ns (stop j) f h k = h
+
+numbered-left : {A : Type 0} (ns ms : List ℕ) (r : Res A) → Numbered ns r → Numbered (ns ++ ms) r
+numbered-left ns ms (ok a) h = tt
+numbered-left ns ms (stop k) h = among-left k ns ms h
 
 -- ---- reading
 
@@ -158,31 +162,30 @@ check-numbered limit ls = work-numbered checkFinds (checkLine limit) (check-line
 
 -- ---- the run
 
-abbrev Runnable : {A : Type 0} → Res A → Type 0
-Runnable = Numbered runStops
-
-or-stop-numbered : {A : Type 0} (m : Option A) → Runnable (orStop zeroDivisor m)
+-- a put or a hold stops it with what the check finds
+or-stop-numbered : {A : Type 0} (m : Option A) → Checkable (orStop zeroDivisor m)
 or-stop-numbered none = refl
 or-stop-numbered (some z) = tt
 
-value-numbered : (s : List ℤ) (e : Form) → Runnable (valueOf s e)
+value-numbered : (s : List ℤ) (e : Form) → Checkable (valueOf s e)
 unfolding valueOf
 value-numbered s (lit z) = tt
 value-numbered s (reg r) = tt
-value-numbered s (form1 o e) = bind-numbered runStops (valueOf s e) _ (value-numbered s e) (λ x. tt)
+value-numbered s (form1 o e) = bind-numbered checkFinds (valueOf s e) _ (value-numbered s e) (λ x. tt)
 value-numbered s (form2 o e f) =
-    bind-numbered runStops (valueOf s e) _ (value-numbered s e) (λ x. bind-numbered runStops (valueOf s f) _ (value-numbered s f) (λ y. or-stop-numbered (point2 o x y)))
+    bind-numbered checkFinds (valueOf s e) _ (value-numbered s e) (λ x. bind-numbered checkFinds (valueOf s f) _ (value-numbered s f) (λ y. or-stop-numbered (point2 o x y)))
 
-run-act-numbered : (s : List ℤ) (a : Act) → Runnable (runAct s a)
+pub run-act-numbered : (s : List ℤ) (a : Act) → Checkable (runAct s a)
 unfolding runAct
-run-act-numbered s (put r e) = bind-numbered runStops (valueOf s e) _ (value-numbered s e) (λ z. tt)
-run-act-numbered s (hold r lo hi) = cond-case Runnable (within lo (getD s r (pos 0)) hi) (ok s) (stop holdBroken) (λ t. tt) (λ t. refl)
+run-act-numbered s (put r e) = bind-numbered checkFinds (valueOf s e) _ (value-numbered s e) (λ z. tt)
+run-act-numbered s (hold r lo hi) = cond-case Checkable (within lo (getD s r (pos 0)) hi) (ok s) (stop holdBroken) (λ t. tt) (λ t. refl)
 
-run-line-numbered : (lent s : List ℤ) (l : Line) → Runnable (runLine lent s l)
+-- an `in` with 22
+run-line-numbered : (lent s : List ℤ) (l : Line) → Numbered runStops (runLine lent s l)
 unfolding runLine
 run-line-numbered lent s (input r lo hi) =
-    cond-case Runnable (within lo (getD lent r (pos 0)) hi) (ok (set s r (getD lent r (pos 0)))) (stop outsideIn) (λ t. tt) (λ t. refl)
-run-line-numbered lent s (act a) = run-act-numbered s a
+    cond-case (Numbered runStops) (within lo (getD lent r (pos 0)) hi) (ok (set s r (getD lent r (pos 0)))) (stop outsideIn) (λ t. tt) (λ t. refl)
+run-line-numbered lent s (act a) = numbered-left checkFinds (outsideIn ∷ []) (runAct s a) (run-act-numbered s a)
 
 run-numbered : (lent : List ℤ) (ls : List Line) → NumberedOutcome runStops (run lent ls)
 unfolding run

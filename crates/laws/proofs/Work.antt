@@ -10,7 +10,7 @@ use Rattle.meaning.specs.Lists.{All}
 use Rattle.meaning.specs.Outcome.{Res, ok, stop, bind, Outcome, done, stopped, onward, work, nextLine}
 use Rattle.meaning.specs.Sheet.{Line}
 use Rattle.meaning.specs.Text.{Read, sheet, noSheet}
-use Rattle.meaning.specs.Run.{worked, judge}
+use Rattle.meaning.specs.Run.{refused, worked, judge}
 use Rattle.meaning.specs.CheckSets.{stateOf}
 
 -- a value is no trouble
@@ -106,6 +106,9 @@ pub record Works {A : Type 0} (f : List Line → Outcome A) (r : Read) (n : ℕ)
   pub gives : f lines ≡ o
   pub count : length lines ≡ n
 
+pub not-worked {ℓ} : {A : Type 0} {X : Type ℓ} {k l n : ℕ} {o : Outcome A} → refused k l ≡ worked n o → X
+not-worked e = let z : _≡_ {A = ℕ} 0 1 = cc in absurd (let x : ⊥ = omega arith in x)
+
 pub judge-worked : {A : Type 0} (f : List Line → Outcome A) (r : Read) {n : ℕ} {o : Outcome A} → judge f r ≡ worked n o → Works f r n o
 judge-worked f (sheet ls) e = record { lines = ls; reads = refl; gives = cc; count = cc }
-judge-worked f (noSheet k l) e = let z : _≡_ {A = ℕ} 0 1 = cc in absurd (let x : ⊥ = omega arith in x)
+judge-worked f (noSheet k l) e = not-worked e

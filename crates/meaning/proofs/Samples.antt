@@ -14,4 +14,4 @@ use Rattle.meaning.specs.Samples.{Samples}
 
 pub samples : Samples
 unfolding listing readText outcomeText passLine registerLines registerLine intervalTexts listed wroteTo troubleLine decimalZ decimal digitsBefore checkBy lineBy actBy setBy settle inside read readLines readOne admit splitLines readLine judged wholeLine lineOf actOf value bounds arg start head registerWith literal unsigned decimals scale number digits begins closed farForm farAct farLine crossedAct crossedLine bind work contains insert rebuild ofBools someOf ltBools set1 set2 flag1 flag2 each without pieces split spread addPair leastCorner greatestCorner mulPair divPiece divPart divPair within window wrap distance missing noneFewer closeOne closeGaps close
-samples = record { pump = refl; zero = refl; spaced = refl; broken = refl; nothing = refl; held = refl; ordered = refl; crowded = refl }
+samples = record { pump = refl; zero = refl; spaced = refl; broken = refl; nothing = refl; held = refl; dirty = refl; ordered = refl; crowded = refl }

@@ -1,4 +1,4 @@
--- The check (01, "Sheet", as requests (iii) and (v) of document 02 amend it): its state is one set a register. Assumes nothing.
+-- The check (01, "Sheet", as requests (iii), (v) and (vi) of document 02 amend it): its state is one set a register. Assumes nothing.
 use lib.Dec.{ltb}
 use lib.IntN.{ℤ, pos, negsuc}
 use lib.Signed.{leZ}
@@ -9,6 +9,7 @@ use Prim.Native.Nat.{ℕ, _+_, _-_, _*_}
 use Rattle.meaning.specs.Refusals.{tooShort, zeroDivisor, holdBroken}
 use Rattle.meaning.specs.Lists.{over}
 use Rattle.meaning.specs.Outcome.{Res, ok, stop, bind, Outcome, done, stopped, work}
+use Rattle.meaning.specs.Number.{MIN, MAX}
 use Rattle.meaning.specs.Interval.{span, only}
 use Rattle.meaning.specs.NumberIntervals.{Set, set1, set2, flag1, flag2, flat, intervals}
 use Rattle.meaning.specs.Close.{close}
@@ -41,9 +42,9 @@ settle limit s flag = cond flag (stop zeroDivisor) (ok (close limit s))
 abbrev pub give : Bands → ℕ → Set → Bands
 give B r s = record { sets = set (B .sets) r s }
 
--- every register starts at {0}
+-- every register starts at [MIN,MAX]: it may hold any number (02, (vi))
 abbrev pub startSets : Bands
-startSets = record { sets = replicate registers (only (pos 0)) }
+startSets = record { sets = replicate registers (span MIN MAX) }
 
 -- ---- the check by any way of settling
 

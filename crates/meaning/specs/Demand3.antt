@@ -4,11 +4,13 @@ use lib.ListN.{getD, length}
 use mathlib.Core.Path.{_≡_}
 use mathlib.Core.List.{List, []}
 use Prim.Native.Nat.{ℕ, _<_, _≤_}
+use Rattle.meaning.specs.Lists.{All}
+use Rattle.meaning.specs.Number.{InRange}
 use Rattle.meaning.specs.Outcome.{done}
 use Rattle.meaning.specs.NumberIntervals.{Set, _∈_}
 use Rattle.meaning.specs.Sheet.{registers, Line}
 use Rattle.meaning.specs.Text.{cut, sheet, read}
-use Rattle.meaning.specs.Run.{worked, runText, stateAfter, LentInside}
+use Rattle.meaning.specs.Run.{worked, startNumbers, runText, stateAfter, LentInside}
 use Rattle.meaning.specs.Check.{Bands, checkText}
 
 -- each register's number is in the register's set
@@ -40,6 +42,11 @@ pub record Safe (limit : ℕ) (lent : List ℤ) (t : List ℕ) (n : ℕ) (bands 
   pub last : stateAfter lent lines n ≡ done state
   pub members : Members state (bands .sets)
 
--- for every text that the check passes, and every lent list inside its `in` lines
+-- what a run is lent: a number for each register
+pub record Numbers (lent : List ℤ) : Type 0 where
+  pub enough : registers ≤ length lent
+  pub ranged : All InRange (startNumbers lent)
+
+-- for every text that the check passes, and every number left in a register, if inside the register's `in` line where it has one
 abbrev pub Safety : Type 0
-Safety = (limit : ℕ) (t : List ℕ) (n : ℕ) (bands : Bands) (lent : List ℤ) → checkText limit t ≡ worked n (done bands) → LentInside lent t → Safe limit lent t n bands
+Safety = (limit : ℕ) (t : List ℕ) (n : ℕ) (bands : Bands) (lent : List ℤ) → checkText limit t ≡ worked n (done bands) → Numbers lent → LentInside lent t → Safe limit lent t n bands

@@ -10,6 +10,7 @@ use Rattle.meaning.specs.NumberIntervals.{_∈_}
 use Rattle.meaning.specs.Sheet.{registers, Line}
 use Rattle.meaning.specs.Text.{cut, sheet, read}
 use Rattle.meaning.specs.Run.{Verdict, verdict, runCall, runLent, stateAfter, LentInside}
+use Rattle.meaning.specs.Demand3.{Numbers}
 use Rattle.meaning.specs.Check.{setsNeed, workNeed, checkCall, checkSets, setIn}
 
 -- what a pass of n lines, or a run of n lines that is done, returns
@@ -50,8 +51,8 @@ pub record CallsSafe (lent : List ℤ) (t : List ℕ) (sets work : List ℤ) (n 
   pub leaves : take registers (runLent t lent) ≡ state
   pub members : (r : ℕ) → r < registers → getD state r (pos 0) ∈ setIn (checkSets t sets work) r
 
--- for every text that the check passes, and every lent list inside its `in` lines
+-- for every text that the check passes, and every number left in a register, if inside the register's `in` line where it has one
 abbrev pub CallsSafety : Type 0
 CallsSafety =
-    (t : List ℕ) (sets work lent : List ℤ) (n : ℕ) → Enough sets work → registers ≤ length lent → verdict (checkCall t sets work) ≡ fulfilled n → LentInside lent t
+    (t : List ℕ) (sets work lent : List ℤ) (n : ℕ) → Enough sets work → Numbers lent → verdict (checkCall t sets work) ≡ fulfilled n → LentInside lent t
     → CallsSafe lent t sets work n

@@ -1,7 +1,7 @@
--- The plain run (01, "Plain run"): its state is one number a register. Assumes nothing.
+-- The plain run (01, "Plain run", as request (vi) of document 02 amends it): its state is one number a register. Assumes nothing.
 use lib.Dec.{ltb}
 use lib.IntN.{ℤ, pos}
-use lib.ListN.{length, getD, set, replicate}
+use lib.ListN.{length, getD, set, take}
 use mathlib.Core.Path.{_≡_}
 use mathlib.Core.Bool.{cond}
 use mathlib.Core.List.{List}
@@ -9,7 +9,7 @@ use Prim.Native.Nat.{ℕ, zero, suc}
 use Rattle.meaning.specs.Refusals.{tooShort, zeroDivisor, holdBroken, outsideIn}
 use Rattle.meaning.specs.Lists.{over, All}
 use Rattle.meaning.specs.Outcome.{Res, ok, stop, bind, orStop, Outcome, done, stopped, work, nextLine}
-use Rattle.meaning.specs.Number.{within, Between, point1, point2}
+use Rattle.meaning.specs.Number.{InRange, within, Between, point1, point2}
 use Rattle.meaning.specs.Sheet.{registers, Form, lit, reg, form1, form2, Act, put, hold, Line, input, act}
 use Rattle.meaning.specs.Text.{Read, sheet, noSheet, read}
 
@@ -30,9 +30,9 @@ unfoldable pub runLine : List ℤ → List ℤ → Line → Res (List ℤ)
 runLine lent s (input r lo hi) = cond (within lo (getD lent r (pos 0)) hi) (ok (set s r (getD lent r (pos 0)))) (stop outsideIn)
 runLine lent s (act a) = runAct s a
 
--- every register starts at 0, whatever is lent
+-- every register starts with the number that was there, its lent one (02, (vi))
 unfoldable pub startNumbers : List ℤ → List ℤ
-startNumbers lent = replicate registers (pos 0)
+startNumbers lent = take registers lent
 
 unfoldable pub run : List ℤ → List Line → Outcome (List ℤ)
 run lent ls = work (runLine lent) 1 (startNumbers lent) ls
@@ -81,6 +81,10 @@ leftBy lent (worked n (stopped k l s)) = over s lent
 
 unfoldable pub runLent : List ℕ → List ℤ → List ℤ
 runLent t lent = leftBy lent (runCall t lent)
+
+-- where the lines of t were worked, the numbers that they started from are numbers of i64, whatever was left in a register
+abbrev pub Ranged : List ℕ → List ℤ → Type 0
+Ranged t lent = (n : ℕ) (o : Outcome (List ℤ)) → runCall t lent ≡ worked n o → All InRange (startNumbers lent)
 
 -- ---- the premise of demand 3: the lent numbers of the registers with `in` lines lie inside them
 

@@ -46,10 +46,16 @@ abbrev pub nothing-listing : List ℕ
 nothing-listing = bytes "pass 0\n"
 
 abbrev pub held-sheet : List ℕ
-held-sheet = bytes "(hold 3 0 0)\n"
+held-sheet = bytes "(hold 3 -9223372036854775.808 9223372036854775.807)\n"
 
 abbrev pub held-listing : List ℕ
 held-listing = bytes "pass 1\n"
+
+abbrev pub dirty-sheet : List ℕ
+dirty-sheet = bytes "(hold 3 0 0)\n"
+
+abbrev pub dirty-listing : List ℕ
+dirty-listing = bytes "stop 21 1\n"
 
 abbrev pub ordered-sheet : List ℕ
 ordered-sheet =
@@ -92,6 +98,8 @@ pub record Samples : Type 0 where
   pub nothing : listing nothing-sheet ≡ nothing-listing
   -- a register of a hold alone is not listed
   pub held : listing held-sheet ≡ held-listing
+  -- a register that no line has put may hold any number
+  pub dirty : listing dirty-sheet ≡ dirty-listing
   -- registers ascending, one space before each interval, a single value by both ends
   pub ordered : listing ordered-sheet ≡ ordered-listing
   -- 28 intervals in r2 (02, (v)): of the 24 gaps of 999 missing numbers the lowest twelve are closed, and the three wider ones stay

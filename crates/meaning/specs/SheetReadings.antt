@@ -132,14 +132,17 @@ pub record SheetReadings : Type 0 where
   pub line-three : lineAt (bytes "a\nb") 3 ≡ []
   -- a cut keeps its LFs
   pub cut-one : cut (bytes "a\nb\n") 1 ≡ bytes "a\n"
-  -- 22 on line 2: register 0 has its lent number, register 1 still 0
-  pub run-stops : runText (pos 5000 ∷ pos 9000 ∷ []) (bytes "(in 0 0 9)\n(in 1 0 1)\n") ≡ worked 2 (stopped 22 2 (pos 5000 ∷ replicate (registers - 1) (pos 0)))
-  -- what a stop leaves: the state before the line, and numbers past those of the registers as lent
-  pub run-left : runLent (bytes "(in 0 0 9)\n(in 1 0 1)\n") (replicate (registers + 1) (pos 5000)) ≡ pos 5000 ∷ (replicate (registers - 1) (pos 0) ++ pos 5000 ∷ [])
-  -- 21 in a run
-  pub run-hold : runText [] (bytes "(hold 3 1 2)\n") ≡ worked 1 (stopped 21 1 (replicate registers (pos 0)))
-  -- 16 lent numbers are enough, and an empty sheet leaves zeros
-  pub run-empty : runLent [] (replicate 16 (pos 7)) ≡ replicate 16 (pos 0)
+  -- 22 on line 2: every register still has its lent number (02, (vi))
+  pub run-stops : runText (pos 5000 ∷ pos 9000 ∷ replicate (registers - 2) (pos 7)) (bytes "(in 0 0 9)\n(in 1 0 1)\n") ≡ worked 2 (stopped 22 2 (pos 5000 ∷ pos 9000 ∷ replicate (registers - 2) (pos 7)))
+  -- what a stop leaves: the state before the line, where a register not yet put has its lent number, and numbers past those of the registers as lent
+  pub run-left : runLent (bytes "(put 0 1)\n(hold 1 0 1)\n") (replicate (registers + 1) (pos 5000)) ≡ pos 1000 ∷ replicate registers (pos 5000)
+  -- an `in` takes the lent number
+  pub run-in : runText (pos 5000 ∷ replicate (registers - 1) (pos 7)) (bytes "(in 0 0 9)\n(put 1 (reg 0))\n") ≡ worked 2 (done (pos 5000 ∷ pos 5000 ∷ replicate (registers - 2) (pos 7)))
+  -- 21 in a run: a register without a line holds its lent number
+  pub run-hold : runText (replicate registers (pos 7)) (bytes "(hold 3 1 2)\n") ≡ worked 1 (stopped 21 1 (replicate registers (pos 7)))
+  pub run-held : runText (replicate registers (pos 7)) (bytes "(hold 3 0.007 2)\n") ≡ worked 1 (done (replicate registers (pos 7)))
+  -- 16 lent numbers are enough, and an empty sheet leaves them
+  pub run-empty : runLent [] (replicate 16 (pos 7)) ≡ replicate 16 (pos 7)
   pub run-fifteen : verdict (runCall [] (replicate 15 (pos 7))) ≡ record { number = 3; line = 0; count = 0 }
   -- 528 and 8192 are enough
   pub check-enough : verdict (checkCall [] (replicate 528 (pos 7)) (replicate 8192 (pos 7))) ≡ record { number = 0; line = 0; count = 0 }
@@ -147,14 +150,20 @@ pub record SheetReadings : Type 0 where
   pub run-short : verdict (runCall (bytes "x") []) ≡ record { number = 3; line = 0; count = 0 }
   pub check-short : verdict (checkCall (bytes "x") [] []) ≡ record { number = 3; line = 0; count = 0 }
   -- both arguments are always worked
-  pub no-short-cut : runText [] (bytes "(put 0 (and 0 (div 1 0)))\n") ≡ worked 1 (stopped 20 1 (replicate registers (pos 0)))
+  pub no-short-cut : runText (replicate registers (pos 7)) (bytes "(put 0 (and 0 (div 1 0)))\n") ≡ worked 1 (stopped 20 1 (replicate registers (pos 7)))
   pub check-zero : checkText 16 (bytes "(put 0 (and 0 (div 1 0)))\n") ≡ worked 1 (stopped 20 1 startSets)
-  -- the start is {0}
-  pub check-hold : checkText 16 (bytes "(hold 3 0 0)\n(hold 3 1 2)\n") ≡ worked 2 (stopped 21 2 startSets)
+  -- the start is [MIN,MAX] and no less (02, (vi))
+  pub check-hold : checkText 16 (bytes "(hold 3 -9223372036854775.808 9223372036854775.807)\n(hold 3 0 0)\n") ≡ worked 2 (stopped 21 2 startSets)
+  pub check-below : verdict (checkText 16 (bytes "(hold 3 -9223372036854775.807 9223372036854775.807)\n")) ≡ record { number = 21; line = 1; count = 0 }
+  pub check-above : verdict (checkText 16 (bytes "(hold 3 -9223372036854775.808 9223372036854775.806)\n")) ≡ record { number = 21; line = 1; count = 0 }
+  -- an `in` gives [LO,HI] in the place of the start
+  pub check-in : verdict (checkText 16 (bytes "(in 3 0 1)\n(hold 3 0 1)\n")) ≡ record { number = 0; line = 0; count = 2 }
+  -- a divisor that no line has put may be 0
+  pub check-dirty : verdict (checkText 16 (bytes "(put 0 (div 1 (reg 3)))\n")) ≡ record { number = 20; line = 1; count = 0 }
   -- put's E reads the state before the line
-  pub put-old-state : runText [] (bytes "(put 0 1)\n(put 0 (add (reg 0) 1))\n") ≡ worked 2 (done (pos 2000 ∷ replicate (registers - 1) (pos 0)))
-  -- an untouched register holds {0}
-  pub untouched-slot : slot (only (pos 0)) ≡ pos 1 ∷ replicate 32 (pos 0)
+  pub put-old-state : runText (replicate registers (pos 7)) (bytes "(put 0 1)\n(put 0 (add (reg 0) 1))\n") ≡ worked 2 (done (pos 2000 ∷ replicate (registers - 1) (pos 7)))
+  -- an untouched register holds [MIN,MAX]
+  pub untouched-slot : slot (span MIN MAX) ≡ pos 1 ∷ MIN ∷ MAX ∷ replicate 30 (pos 0)
   -- register by register: the count, then 32 for ends
   pub slot-ends : slot (span (pos 5) (pos 7)) ≡ pos 1 ∷ pos 5 ∷ pos 7 ∷ replicate 30 (pos 0)
   pub slots-in-turn : take 3 (drop 33 (layout (span (pos 5) (pos 7) ∷ only (pos 9) ∷ []))) ≡ pos 1 ∷ pos 9 ∷ pos 9 ∷ []
@@ -173,7 +182,7 @@ pub record SheetReadings : Type 0 where
   -- so 1/[−1,1], which has two intervals, is 20 under a limit of 1
   pub crowded-division : verdict (checkText 1 (bytes "(in 0 -1 1)\n(put 1 (div 1 (reg 0)))\n")) ≡ record { number = 20; line = 2; count = 0 }
   -- with a limit of 1, (lt (reg 0) 1) is not {0} and {1000} but all from 0 to 1000
-  pub closed-form : checkText 1 (bytes "(in 0 0 2)\n(put 1 (lt (reg 0) 1))\n") ≡ worked 2 (done (record { sets = span (pos 0) (pos 2000) ∷ span (pos 0) (pos 1000) ∷ replicate (registers - 2) (only (pos 0)) }))
+  pub closed-form : checkText 1 (bytes "(in 0 0 2)\n(put 1 (lt (reg 0) 1))\n") ≡ worked 2 (done (record { sets = span (pos 0) (pos 2000) ∷ span (pos 0) (pos 1000) ∷ replicate (registers - 2) (span MIN MAX) }))
   -- and its outer form sees the closed set: 0 is in the divisor that has none under a limit of 2
   pub closed-divisor : verdict (checkText 1 (bytes "(in 0 0 2)\n(put 1 (div 1 (sub (lt (reg 0) 1) 0.5)))\n")) ≡ record { number = 20; line = 2; count = 0 }
   pub open-divisor : verdict (checkText 2 (bytes "(in 0 0 2)\n(put 1 (div 1 (sub (lt (reg 0) 1) 0.5)))\n")) ≡ record { number = 0; line = 0; count = 2 }

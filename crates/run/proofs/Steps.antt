@@ -5,16 +5,16 @@ use Prim.Native.Nat.{ℕ, _+_, _-_, _≤_, _<_}
 use native.Mathlib.Omega.{arith}
 use native.Mathlib.Numerals.{add-one}
 use lib.IntN.{ℤ, pos}
-use lib.ListN.{length, getD, set, take, drop, replicate, length-set, length-replicate, drop-of-length-le}
+use lib.ListN.{length, getD, set, take, drop, length-set, drop-of-length-le}
 use lib.Seq.{getD-take, take-all, length-take-le}
 use borrow.Author.Tests.{lt-ltb, le-ltb}
-use Rattle.meaning.specs.Lists.{over}
+use Rattle.meaning.specs.Lists.{over, All}
 use Rattle.meaning.specs.Outcome.{ok, stop, bind, Outcome, done, stopped, work}
-use Rattle.meaning.specs.Number.{within}
+use Rattle.meaning.specs.Number.{within, InRange}
 use Rattle.meaning.specs.Sheet.{registers, put, hold, Line, input, act, FineLine}
 use Rattle.meaning.specs.Text.{read}
 use Rattle.meaning.specs.Run.{valueOf, runAct, runLine, startNumbers, run, Judged, refused, worked, judge, runText, verdict, runCall, leftBy, runLent}
-use Rattle.laws.proofs.Work.{ok-same, bind-ok, guard-ok}
+use Rattle.laws.proofs.Work.{ok-same, bind-ok, guard-ok, not-worked}
 use Rattle.laws.proofs.Fine.{read-line-fine}
 use Rattle.sheet.specs.Answer.{judgementFor}
 use Rattle.sheet.specs.Judging.{IsSheet}
@@ -50,12 +50,16 @@ pub record Running (t : List ℕ) (lent state : List ℤ) (n i at : ℕ) : Type 
   pub size : length state ≡ registers
   pub same : run lent (sheet-is .lines) ≡ work (runLine lent) (i + 1) state (drop i (sheet-is .lines))
 
-pub running-start : (t : List ℕ) (lent : List ℤ) (n : ℕ) → IsSheet t n → Running t lent (replicate registers (pos 0)) n 0 0
-unfolding run startNumbers
-running-start t lent n h = record {
+pub start-is : (lent : List ℤ) → startNumbers lent ≡ take registers lent
+unfolding startNumbers
+start-is lent = refl
+
+pub running-start : (t : List ℕ) (lent : List ℤ) (n : ℕ) → IsSheet t n → registers ≤ length lent → Running t lent (startNumbers lent) n 0 0
+unfolding run
+running-start t lent n h k = record {
   sheet-is = h;
   walk = walk-start t (h .reads);
-  size = length-replicate registers (pos 0);
+  size = ap length (start-is lent) ∙ length-take-le registers lent k;
   same = refl;
 }
 
@@ -115,8 +119,8 @@ pub written-is : (state lent : List ℤ) → length state ≡ registers → over
 written-is state lent h = ap (λ (x : List ℤ). over x lent) (take-all registers state (omega arith))
 
 -- the copy of the lent numbers
-pub copied-is : (lent old : List ℤ) → length old ≡ registers → registers ≤ length lent → over (take registers lent) old ≡ take registers lent
-unfolding over
+pub copied-is : (lent old : List ℤ) → length old ≡ registers → registers ≤ length lent → over (take registers lent) old ≡ startNumbers lent
+unfolding over startNumbers
 copied-is lent old h k =
     ap (λ (x : List ℤ). take registers lent ++ x) (drop-of-length-le old {i = length (take registers lent)} (omega (arith, length-take-le registers lent k)))
     ∙ append-nil (take registers lent)
@@ -130,17 +134,19 @@ answer-verdict (worked n (done s)) = refl
 answer-verdict (worked n (stopped k l s)) = refl
 
 module _ (t : List ℕ) (lent : List ℤ) where
-  ran-is : {r : Answer} {lent′ : List ℤ} (x : Judged (List ℤ)) → runCall t lent ≡ x → r ≡ answerFor x → lent′ ≡ leftBy lent x → Ran t lent r lent′
+  ran-is : {r : Answer} {lent′ : List ℤ} (x : Judged (List ℤ)) → runCall t lent ≡ x → r ≡ answerFor x → lent′ ≡ leftBy lent x
+      → ((n : ℕ) (o : Outcome (List ℤ)) → x ≡ worked n o → All InRange (startNumbers lent)) → Ran t lent r lent′
   unfolding runLent
-  ran-is x e a l = record {
+  ran-is x e a l g = record {
     verdict-is = ap verdictOf a ∙ answer-verdict x ∙ ap verdict (sym e);
     answer-is = a ∙ ap answerFor (sym e);
     lent-left = l ∙ ap (leftBy lent) (sym e);
+    ranged = λ n o q. g n o (sym e ∙ q);
   }
 
   pub ran-short : length lent < registers → Ran t lent (answer.Refused 3 0) lent
   unfolding runCall
-  ran-short h = ran-is (refused 3 0) (rw (lt-ltb (length lent) registers h)) refl refl
+  ran-short h = ran-is (refused 3 0) (rw (lt-ltb (length lent) registers h)) refl refl (λ n o q. not-worked q)
 
   module _ (h : registers ≤ length lent) where
     pub call-text : runCall t lent ≡ runText lent t
@@ -149,7 +155,7 @@ module _ (t : List ℕ) (lent : List ℤ) where
 
     pub ran-refused : {j : Judgement} → j ≡ judgementFor (read t) → {k n : ℕ} → j ≡ judgement.Refused k n → Ran t lent (answer.Refused k n) lent
     unfolding runText
-    ran-refused ej {k} {n} e = ran-is (refused k n) (call-text ∙ ap (judge (run lent)) (refused-read t ej e)) refl refl
+    ran-refused ej {k} {n} e = ran-is (refused k n) (call-text ∙ ap (judge (run lent)) (refused-read t ej e)) refl refl (λ n o q. not-worked q)
 
-    pub ran-worked : {r : Answer} {lent′ : List ℤ} → r ≡ answerFor (runText lent t) → lent′ ≡ leftBy lent (runText lent t) → Ran t lent r lent′
-    ran-worked a l = ran-is (runText lent t) call-text a l
+    pub ran-worked : {r : Answer} {lent′ : List ℤ} → r ≡ answerFor (runText lent t) → lent′ ≡ leftBy lent (runText lent t) → All InRange (startNumbers lent) → Ran t lent r lent′
+    ran-worked a l g = ran-is (runText lent t) call-text a l (λ _ _ _. g)

@@ -4,7 +4,7 @@ use mathlib.Core.List.{List}
 use mathlib.Core.Path.{_≡_}
 use Prim.Native.Nat.{ℕ}
 use Rattle.meaning.specs.Outcome.{done, stopped}
-use Rattle.meaning.specs.Run.{Verdict, verdict, Judged, refused, worked, runCall, runLent}
+use Rattle.meaning.specs.Run.{Verdict, verdict, Judged, refused, worked, runCall, runLent, Ranged}
 use Rattle.run.specs.declared.Answer.{Answer}
 use Rattle.run.specs.declared.Answer.the-variants as answer
 
@@ -20,8 +20,9 @@ answerFor (refused k l) = answer.Refused k l
 answerFor (worked n (done s)) = answer.Done n
 answerFor (worked n (stopped k l s)) = answer.Stopped k l
 
--- a call of the run: what it answers, and what it leaves in its slice
+-- a call of the run: what it answers, what it leaves in its slice, and that it started from numbers of i64
 pub record Ran (t : List ℕ) (lent : List ℤ) (r : Answer) (lent′ : List ℤ) : Type 0 where
   pub verdict-is : verdictOf r ≡ verdict (runCall t lent)
   pub answer-is : r ≡ answerFor (runCall t lent)
   pub lent-left : lent′ ≡ runLent t lent
+  pub ranged : Ranged t lent

@@ -1,10 +1,12 @@
 // The run of a sheet (01, "Plain run"): one number a register, line after line.
-// The lent numbers are copied first: an `in` reads them as they were lent, whatever is written to the slice afterwards.
+// The lent numbers are copied first: they are the state at the start, and an `in` reads them as they were lent, whatever is written afterwards.
 ghost use mathlib.Core.Path.{_≡_};
 ghost use Prim.Native.Nat.{_≤_};
 ghost use lib.ListN.{length};
 ghost use Rattle.meaning.specs.Sheet.{registers};
-ghost use Rattle.meaning.specs.Run.{runText, leftBy};
+ghost use Rattle.meaning.specs.Lists.{All};
+ghost use Rattle.meaning.specs.Number.{InRange};
+ghost use Rattle.meaning.specs.Run.{startNumbers, runText, leftBy};
 ghost use Rattle.sheet.specs.Judging.{IsSheet};
 ghost use Rattle.run.specs.Answer.{answerFor, Ran};
 use limits::REGISTERS;
@@ -23,16 +25,31 @@ pub enum Answer {
     Refused(u8, usize),
 }
 
+// The numbers lent for the registers, which are from MIN to MAX.
+fn lent_numbers(lent: &[i64]) -> [i64; REGISTERS]
+    requires { ⌜ registers ≤ length (now lent) ⌝ }
+    ensures { λ r. ⌜ r ≡ startNumbers (now (lent .entry)) ⌝ ∗ ⌜ All InRange (startNumbers (now (lent .entry))) ⌝ }
+{
+    let mut numbers = [0; REGISTERS];
+    let mut i = 0;
+    while i < REGISTERS {
+        let x = lent[i];
+        numbers[i] = x;
+        i += 1;
+    }
+    numbers
+}
+
 // The lines of a sheet, with its count of lines.
 fn work(text: &[u8], lent: &mut [i64], count: usize) -> Answer
     requires { ⌜ registers ≤ length (now lent) ⌝ }
     requires { ⌜ IsSheet (now text) count ⌝ }
     ensures { λ r. ⌜ r ≡ answerFor (runText (now (lent .entry)) (now (text .entry))) ⌝ }
     ensures { λ r. ⌜ now (lent .exit) ≡ leftBy (now (lent .entry)) (runText (now (lent .entry)) (now (text .entry))) ⌝ }
+    ensures { λ r. ⌜ All InRange (startNumbers (now (lent .entry))) ⌝ }
 {
-    let mut given = [0; REGISTERS];
-    copy_front(&mut given, lent, REGISTERS);
-    let mut state = [0; REGISTERS];
+    let given = lent_numbers(lent);
+    let mut state = given;
     let mut n: usize = 0;
     let mut at = 0;
     while at < text.len() {

@@ -11,8 +11,9 @@ use lib.Signed.{leZ}
 use lib.ListN.{length, set, take, drop, replicate, length-replicate, length-set, length-drop, length-append, replicate-append-replicate}
 use lib.Seq.{set-at, set-split, take-all, drop-drop, length-take-le, take-append-add, drop-append-add}
 use Rattle.meaning.specs.Lists.{over}
-use Rattle.meaning.specs.Interval.{only}
-use Rattle.meaning.specs.NumberIntervals.{flat, intervals}
+use Rattle.meaning.specs.Number.{MIN, MAX}
+use Rattle.meaning.specs.Interval.{span}
+use Rattle.meaning.specs.NumberIntervals.{Set, flat, intervals}
 use Rattle.meaning.specs.Sheet.{registers}
 use Rattle.meaning.specs.Check.{inside, slot, layout, setsNeed, startSets}
 use Rattle.laws.proofs.All.{all-replicate}
@@ -27,49 +28,59 @@ use Rattle.set_values.specs.declared.SetV.{SetV}
 abbrev zeros : ℕ → List ℤ
 zeros n = replicate n (pos 0)
 
--- the first i registers hold {0}, and the numbers behind them are still 0
-abbrev pub started : ℕ → List ℤ
-started i = layout (replicate i (only (pos 0))) ++ zeros (setsNeed - 33 * i)
+abbrev whole : Set
+whole = span MIN MAX
 
-short-start : (i : ℕ) → length (layout (replicate i (only (pos 0)))) ≡ i * 33
-short-start i =
-    length-layout (replicate i (only (pos 0))) (all-replicate Short i (only (pos 0)) (omega arith)) ∙ ap (λ (n : ℕ). n * 33) (length-replicate i (only (pos 0)))
+-- the first i registers hold [MIN,MAX], and the numbers behind them are still 0
+abbrev pub started : ℕ → List ℤ
+started i = layout (replicate i whole) ++ zeros (setsNeed - 33 * i)
+
+short-start : (i : ℕ) → length (layout (replicate i whole)) ≡ i * 33
+short-start i = length-layout (replicate i whole) (all-replicate Short i whole (omega arith)) ∙ ap (λ (n : ℕ). n * 33) (length-replicate i whole)
 
 -- one slot more at the end is one more at the front
-slot-last : (i : ℕ) (l : List ℤ) → layout (replicate i (only (pos 0))) ++ (slot (only (pos 0)) ++ l) ≡ layout (replicate (suc i) (only (pos 0))) ++ l
+slot-last : (i : ℕ) (l : List ℤ) → layout (replicate i whole) ++ (slot whole ++ l) ≡ layout (replicate (suc i) whole) ++ l
 unfolding layout
-slot-last zero l = ap (λ (x : List ℤ). x ++ l) (sym (append-nil (slot (only (pos 0)))))
+slot-last zero l = ap (λ (x : List ℤ). x ++ l) (sym (append-nil (slot whole)))
 slot-last (suc i) l =
-    append-assoc (slot (only (pos 0))) (layout (replicate i (only (pos 0)))) (slot (only (pos 0)) ++ l)
-    ∙ ap (λ (x : List ℤ). slot (only (pos 0)) ++ x) (slot-last i l)
-    ∙ sym (append-assoc (slot (only (pos 0))) (layout (replicate (suc i) (only (pos 0)))) l)
+    append-assoc (slot whole) (layout (replicate i whole)) (slot whole ++ l)
+    ∙ ap (λ (x : List ℤ). slot whole ++ x) (slot-last i l)
+    ∙ sym (append-assoc (slot whole) (layout (replicate (suc i) whole)) l)
 
-slot-zero : (l : List ℤ) → slot (only (pos 0)) ++ l ≡ pos 1 ∷ (zeros 32 ++ l)
+slot-whole : (l : List ℤ) → slot whole ++ l ≡ pos 1 ∷ MIN ∷ MAX ∷ (zeros 30 ++ l)
 unfolding slot flat
-slot-zero l = refl
+slot-whole l = refl
 
-pub start-more : (i : ℕ) → i < registers → set (started i) (33 * i) (pos 1) ≡ started (i + 1)
+-- a store behind two parts
+set-behind : (l p : List ℤ) (x : ℤ) (r : List ℤ) (a : ℤ) (n : ℕ) → length l + length p ≡ n → set (l ++ (p ++ (x ∷ r))) n a ≡ l ++ (p ++ (a ∷ r))
+set-behind l p x r a n h = ap (λ (q : List ℤ). set q n a) (sym (append-assoc l p (x ∷ r))) ∙ set-at (l ++ p) x r a n (length-append l p ∙ h) ∙ append-assoc l p (a ∷ r)
+
+pub start-more : (i : ℕ) → i < registers → set (set (set (started i) (33 * i) (pos 1)) (33 * i + 1) MIN) (33 * i + 2) MAX ≡ started (i + 1)
 start-more i h =
     let n : setsNeed - 33 * i ≡ 33 + (setsNeed - 33 * (i + 1)) = omega arith in
-    let r : zeros (setsNeed - 33 * i) ≡ pos 0 ∷ (zeros 32 ++ zeros (setsNeed - 33 * (i + 1))) = ap zeros n ∙ sym (replicate-append-replicate 33 (setsNeed - 33 * (i + 1)) (pos 0)) in
-    ap (λ (l : List ℤ). set (layout (replicate i (only (pos 0))) ++ l) (33 * i) (pos 1)) r
-    ∙ set-at (layout (replicate i (only (pos 0)))) (pos 0) (zeros 32 ++ zeros (setsNeed - 33 * (i + 1))) (pos 1) (33 * i) (short-start i ∙ let e : i * 33 ≡ 33 * i = omega arith in e)
-    ∙ ap (λ (l : List ℤ). layout (replicate i (only (pos 0))) ++ l) (sym (slot-zero (zeros (setsNeed - 33 * (i + 1)))))
-    ∙ slot-last i (zeros (setsNeed - 33 * (i + 1)))
-    ∙ ap (λ (m : ℕ). layout (replicate m (only (pos 0))) ++ zeros (setsNeed - 33 * (i + 1))) (sym (add-one i))
+    let f = layout (replicate i whole) in
+    let z = zeros (setsNeed - 33 * (i + 1)) in
+    let r : zeros (setsNeed - 33 * i) ≡ pos 0 ∷ pos 0 ∷ pos 0 ∷ (zeros 30 ++ z) = ap zeros n ∙ sym (replicate-append-replicate 33 (setsNeed - 33 * (i + 1)) (pos 0)) in
+    let s = short-start i in
+    ap (λ (l : List ℤ). set (set (set (f ++ l) (33 * i) (pos 1)) (33 * i + 1) MIN) (33 * i + 2) MAX) r
+    ∙ ap (λ (l : List ℤ). set (set l (33 * i + 1) MIN) (33 * i + 2) MAX) (set-behind f [] (pos 0) (pos 0 ∷ pos 0 ∷ (zeros 30 ++ z)) (pos 1) (33 * i) (omega (arith, s)))
+    ∙ ap (λ (l : List ℤ). set l (33 * i + 2) MAX) (set-behind f (pos 1 ∷ []) (pos 0) (pos 0 ∷ (zeros 30 ++ z)) MIN (33 * i + 1) (omega (arith, s)))
+    ∙ set-behind f (pos 1 ∷ MIN ∷ []) (pos 0) (zeros 30 ++ z) MAX (33 * i + 2) (omega (arith, s))
+    ∙ ap (λ (l : List ℤ). f ++ l) (sym (slot-whole z))
+    ∙ slot-last i z
+    ∙ ap (λ (m : ℕ). layout (replicate m whole) ++ z) (sym (add-one i))
 
 pub start-first : replicate setsNeed (pos 0) ≡ started 0
 unfolding layout
 start-first = refl
 
 pub start-last : started registers ≡ layout (startSets .sets)
-start-last = append-nil (layout (replicate registers (only (pos 0))))
+start-last = append-nil (layout (replicate registers whole))
 
 pub started-length : (i : ℕ) → i ≤ registers → length (started i) ≡ setsNeed
-started-length zero h = ap length (sym start-first) ∙ length-replicate setsNeed (pos 0)
-started-length (suc i) h =
-    let e : i < registers = omega arith in
-    ap (λ (m : ℕ). length (started m)) (sym (add-one i)) ∙ ap length (sym (start-more i e)) ∙ length-set (started i) (33 * i) (pos 1) ∙ started-length i (omega arith)
+started-length i h =
+    let n = length-replicate (setsNeed - 33 * i) (pos 0) in
+    length-append (layout (replicate i whole)) (zeros (setsNeed - 33 * i)) ∙ omega (arith, short-start i)
 
 -- ---- a register takes a set
 

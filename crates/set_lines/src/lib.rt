@@ -14,6 +14,8 @@ use set_values::one_interval;
 use set_values::register_set;
 use set_values::stopped;
 use slices::copy_front;
+use words::MAX;
+use words::MIN;
 ghost use mathlib.Core.Path.{_≡_};
 ghost use mathlib.Core.Bool.{_&&_};
 ghost use Prim.Native.Nat.{_+_, _≤_, _<_};
@@ -125,14 +127,17 @@ pub fn check_line(text: &[u8], regs: &mut [i64], work: &mut [i64]) -> u8
     }
 }
 
-// The registers' sets at the start: each holds 0 alone.
+// The registers' sets at the start: each holds every number.
 pub fn start(regs: &mut [i64])
     requires { ⌜ now regs ≡ replicate setsNeed (pos 0) ⌝ }
     ensures { λ _. ⌜ now (regs .exit) ≡ layout (startSets .sets) ⌝ }
 {
     let mut i = 0;
     while i < REGISTERS {
-        regs[SLOT * i] = 1;
+        let k = SLOT * i;
+        regs[k] = 1;
+        regs[k + 1] = MIN;
+        regs[k + 2] = MAX;
         i += 1;
     }
 }

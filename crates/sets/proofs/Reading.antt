@@ -2,11 +2,11 @@
 use mathlib.Core.Path.{_≡_, refl, ap, _∙_}
 use mathlib.Core.List.{List, [], _∷_}
 use mathlib.Core.Bool.{Bool, true, false, _&&_, _||_}
-use Prim.Native.Nat.{ℕ, zero, suc, _+_, _≤_, _<_}
+use Prim.Native.Nat.{ℕ, suc, _+_, _≤_, _<_}
 use native.Mathlib.Omega.{arith}
 use lib.ListN.{length, take, drop, drop-of-length-le}
 use lib.Seq.{take-all}
-use lib.IntN.{ℤ}
+use lib.IntN.{ℤ, pos}
 use lib.Signed.{leZ}
 use Rattle.meaning.specs.Lists.{All}
 use Rattle.meaning.specs.Number.{InRange, within}
@@ -14,6 +14,7 @@ use Rattle.meaning.specs.NumberIntervals.{apart, normal, intervals, startsAfter
 use lib.Dec.{leb}
 use borrow.Author.Tests.{leb-true, leb-false}
 use Rattle.laws.proofs.Integers.{by-test, and-left}
+use Rattle.laws.proofs.All.{all-next}
 use Rattle.sorting.proofs.Steps.{end-at, drop-one, drop-two, drop-last}
 
 regroup : (a b c : Bool) → (a && (b && c)) ≡ ((a && b) && c)
@@ -60,9 +61,7 @@ module _ (s : List ℤ) (i : ℕ) where
 
 -- the first i numbers are in range, and so is the next one
 range-next : (s : List ℤ) (i : ℕ) → i < length s → All InRange (take i s) → InRange (end-at s i) → All InRange (take (suc i) s)
-range-next [] i h p q = absurd (omega arith)
-range-next (x ∷ s) zero h p q = (q, tt)
-range-next (x ∷ s) (suc i) h p q = (p .0, range-next s i (omega arith) (p .1) q)
+range-next s i h p q = all-next InRange s i (pos 0) h p q
 
 pub range-two : (s : List ℤ) (i : ℕ) → i + 2 ≤ length s → All InRange (take i s) → InRange (end-at s i) → InRange (end-at s (i + 1)) → All InRange (take (i + 2) s)
 range-two s i h p q r =

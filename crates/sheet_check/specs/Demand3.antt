@@ -49,8 +49,9 @@ pub record SafeCalls (lent : List ℤ) (t : List ℕ) (sets : List ℤ) (n : ℕ
   pub leaves : (r : RunAnswer) (lent′ : List ℤ) → Ran t lent r lent′ → take registers lent′ ≡ state
   pub members : (q : ℕ) → q < registers → getD state q (pos 0) ∈ setIn sets q
 
--- for every text that a call of the check passes, and every lent list inside its `in` lines
+-- for every text that a call of the check passes, and every call of the run on it: whatever number was left in a register, if inside the register's `in` line where it has one.
+-- That these numbers are from MIN to MAX is what the call of the run promises of its slice
 abbrev pub Demand3 : Type 0
 Demand3 =
-    (t : List ℕ) (sets work sets′ work′ lent : List ℤ) (n : ℕ) → Enough sets work → registers ≤ length lent → Called t sets work (answer.Pass n) sets′ work′ → LentInside lent t
-    → SafeCalls lent t sets′ n
+    (t : List ℕ) (sets work sets′ work′ lent lent′ : List ℤ) (n : ℕ) (r : RunAnswer) → Enough sets work → registers ≤ length lent → Called t sets work (answer.Pass n) sets′ work′
+    → Ran t lent r lent′ → LentInside lent t → SafeCalls lent t sets′ n

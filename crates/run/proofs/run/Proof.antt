@@ -33,7 +33,7 @@ returns-2 c =
     let if1 = c .before .before .before .before .before .before .before .if1 in
     let s = c .before .before .before .before .before .before .before .before .before in
     let e = c .before .work .ensures in
-    ran-worked (s .args .text .now) (s .args .lent .now) (if1 .left) (e .0) (e .1)
+    ran-worked (s .args .text .now) (s .args .lent .now) (if1 .left) (e .0) (e .1 .0) (e .1 .1)
 
 returns-3 : tie.Need-returns-3
 returns-3 c =
