@@ -27,7 +27,7 @@
 #include <stddef.h>
 #include <stdint.h>
 
-#define JUWENFO_VERSION "0.6.0" /* the one place of it: the callers in Rust and Python take it from here */
+#define JUWENFO_VERSION "0.7.0" /* the one place of it: the callers in Rust and Python take it from here */
 
 /* An answer that is dropped may be a refusal: compilers that know how warn of it. */
 #if (defined __cplusplus && __cplusplus >= 201703L) || (defined __STDC_VERSION__ && __STDC_VERSION__ >= 202311L)
@@ -63,7 +63,7 @@ JUWENFO_ANSWERS int64_t juwenfo_number_neg(int64_t x);                   /* wrap
 JUWENFO_ANSWERS int64_t juwenfo_number_abs(int64_t x);                   /* wraps: that of MIN is MIN */
 JUWENFO_ANSWERS int64_t juwenfo_number_add(int64_t x, int64_t y);        /* wraps */
 JUWENFO_ANSWERS int64_t juwenfo_number_sub(int64_t x, int64_t y);        /* wraps */
-JUWENFO_ANSWERS int64_t juwenfo_number_mul(int64_t x, int64_t y);        /* wraps the product, then divides by 1000 */
+JUWENFO_ANSWERS int64_t juwenfo_number_mul(int64_t x, int64_t y);        /* wraps the product, then divides by 1000: from -9223372036854775 to 9223372036854775 */
 JUWENFO_ANSWERS juwenfo_maybe juwenfo_number_div(int64_t x, int64_t y);  /* wraps 1000 times x, then divides, wrapping; none if y is 0 */
 JUWENFO_ANSWERS juwenfo_maybe juwenfo_number_rem(int64_t x, int64_t y);  /* with the sign of x; none if y is 0 */
 JUWENFO_ANSWERS juwenfo_maybe juwenfo_number_next(int64_t x);            /* none after MAX */
@@ -97,7 +97,8 @@ typedef struct {
 JUWENFO_ANSWERS juwenfo_answer juwenfo_set_neg(const int64_t *left, size_t left_len, bool flag, int64_t *work, size_t work_len, int64_t *out, size_t out_len);
 JUWENFO_ANSWERS juwenfo_answer juwenfo_set_abs(const int64_t *left, size_t left_len, bool flag, int64_t *work, size_t work_len, int64_t *out, size_t out_len);
 
-/* K = 2. The flag of the answer is the left set's. add and sub hold just the results of the members; mul holds at least these. */
+/* K = 2. The flag of the answer is the left set's. add and sub hold just the results of the members; mul holds at least these, and nothing below
+ * -9223372036854775 or past 9223372036854775, as no product of two numbers is. */
 JUWENFO_ANSWERS juwenfo_answer juwenfo_set_add(const int64_t *left, size_t left_len, bool flag, const int64_t *right, size_t right_len, int64_t *work, size_t work_len, int64_t *out, size_t out_len);
 JUWENFO_ANSWERS juwenfo_answer juwenfo_set_sub(const int64_t *left, size_t left_len, bool flag, const int64_t *right, size_t right_len, int64_t *work, size_t work_len, int64_t *out, size_t out_len);
 JUWENFO_ANSWERS juwenfo_answer juwenfo_set_mul(const int64_t *left, size_t left_len, bool flag, const int64_t *right, size_t right_len, int64_t *work, size_t work_len, int64_t *out, size_t out_len);

@@ -9,6 +9,7 @@ An object has `call` and what is given to it, and what it is to answer; texts ar
     page     text; number, line, written
     nearest  set, x; number, member
     within   set, x, distance, out: how many numbers are lent, all 7; number, count, left: out afterwards
+    mul      left, right: normal sets, flag false; number, answer
 
 It says for each call how many agree and shows the first that differs. A call that is not listed here is counted apart.
 """
@@ -51,6 +52,15 @@ def page(case):
         return {"number": t.number, "line": t.line, "written": ""}
 
 
+def mul(case):
+    try:
+        answer, flag = juwenfo.set_mul(juwenfo._pairs(case["left"]), juwenfo._pairs(case["right"]))
+    except juwenfo.Refused as r:
+        return {"number": r.number, "answer": []}
+    got = {"number": 0, "answer": juwenfo._ends(answer)}
+    return dict(got, flag=True) if flag else got  # no case has a flag, which is false
+
+
 # The two calls below are the C functions themselves: a slice that is no list of intervals, and an out of any length, have no place in the Python calls.
 
 def nearest(case):
@@ -68,7 +78,8 @@ def within(case):
 
 if len(sys.argv) < 2:
     sys.exit("usage: cases.py FILE..")
-CALLS = {"listing": listing, "check": check, "run": run, "page": page, "nearest": nearest, "within": within}
+CALLS = {"listing": listing, "check": check, "run": run, "page": page, "nearest": nearest, "within": within, "mul": mul}
+ANSWERS = ("written", "number", "line", "sets", "left", "member", "count", "answer")
 agree, differ, unknown = collections.Counter(), collections.Counter(), collections.Counter()
 for name in sys.argv[1:]:
     for line in open(name):
@@ -78,7 +89,7 @@ for name in sys.argv[1:]:
             unknown[call] += 1
             continue
         got = CALLS[call](case)
-        want = {k: case[k] for k in ("written", "number", "line", "sets", "left", "member", "count") if k in case}
+        want = {k: case[k] for k in ANSWERS if k in case and (call, k) != ("mul", "left")}  # the left of mul is given
         if got == want:
             agree[call] += 1
             continue

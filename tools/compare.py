@@ -1,5 +1,6 @@
 #!/usr/bin/env python3
-"""Compares reading.py with the original Rust on random and edge cases, outside document 01's named differences.
+"""Compares reading.py with the original Rust on random and edge cases, outside document 01's named differences. The original's product is intersected
+with the range of products first, by document 02 (vii).
 
     compare.py ORACLE SEED CASES
 
@@ -26,7 +27,7 @@ def compare_set(op, oracle, r, n):
     wrong = under = 0
     for (a, f, b), answer in zip(cases, answers):
         words = answer.split()
-        theirs = None if words[0] == 'panic' else (sorted(rules.pairs([int(w) for w in words[1:]])), words[0] == '1')
+        theirs = None if words[0] == 'panic' else (sorted(rules.pairs(vectors.compared(op, [int(w) for w in words[1:]]))), words[0] == '1')
         if theirs == rules.value(op, a, f, b): continue
         if named(op, a, b): under += 1
         else:

@@ -3,6 +3,7 @@ It uses nothing of crates/meaning, and is used to make the stored cases of crate
 MIN, MAX = -2**63, 2**63 - 1
 FULL = 2**64
 ONE = 1000
+GREATEST = 9223372036854775    # no product of two numbers, divided by 1000, is past it, nor below its negative: 02 (vii)
 
 # ---------------------------------------------------------------- numbers
 def wrap(z):
@@ -83,11 +84,19 @@ def spread(p, q, scale=lambda z: z):
     if kp == 0: return [(v, MAX), (MIN, u)]
     return [(u, MAX), (MIN, v)]
 
-def r_mul(L, R):
+def r_uncut_mul(L, R):
+    """01's rule, as it was before request (vii)"""
     corners = [a * b for a in L for b in R]
     p, q = min(corners), max(corners)
     if q - p >= FULL - 1: return [(MIN, MAX)]
     return spread(p, q, lambda z: quot(z, 1000))
+
+def r_mul(L, R):
+    """what 01's rule leaves from -GREATEST to GREATEST: 02 (vii). No interval is lost."""
+    uncut = r_uncut_mul(L, R)
+    got = [(max(s, -GREATEST), min(e, GREATEST)) for s, e in uncut if s <= GREATEST and e >= -GREATEST]
+    assert len(got) == len(uncut)
+    return got
 
 def plain_div(D, R):
     corners = [quot(a, b) for a in D for b in R]
@@ -500,7 +509,10 @@ if __name__ == '__main__':
     assert v('add', [(MAX - 2, MAX)], [(1, 1)])[0] == [(MIN, MIN), (MAX - 1, MAX)]
     assert v('add', [(MIN, -1)], [(0, MAX)])[0] == [(MIN, MAX - 1)]
     assert v('add', [(MIN, 0)], [(0, MAX)])[0] == [(MIN, MAX)]
-    assert v('mul', [(6917529027641081855, 6917529027641082856)], [(4, 4)])[0] == [(MIN, -9223372036854771), (9223372036854775, MAX)]
+    assert v('mul', [(6917529027641081855, 6917529027641082856)], [(4, 4)])[0] == [(-GREATEST, -9223372036854771), (GREATEST, GREATEST)]
+    assert (quot(MIN, 1000), quot(MAX, 1000)) == (-GREATEST, GREATEST) and p_mul(MIN, 1) == -GREATEST and p_mul(MAX, 1) == GREATEST
+    assert v('mul', [(MAX, MAX)], [(3, 4)])[0] == [(-GREATEST, 0), (GREATEST, GREATEST)] and v('mul', [(MAX, MAX)], [(3, 5)])[0] == [(-GREATEST, GREATEST)]
+    assert v('mul', [(MIN, MAX)], [(MIN, MAX)])[0] == [(-GREATEST, GREATEST)] and v('mul', [(MIN, MIN)], [(1, 1)])[0] == [(-GREATEST, -GREATEST)]
     assert v('div', [(-10**16, 10**16)], [(1000, 1000)])[0] == [(MIN, MAX)]
     assert v('div', [(0, 0)], [(-1, 1)]) == ([(0, 0)], True)
     assert v('rem', [(7, 7)], [(0, 0)]) == ([], True)
@@ -526,4 +538,7 @@ if __name__ == '__main__':
     assert run(b'', dirty + [7]) == (('done', 0), dirty + [7]) and run(b'(put 1 5)\n(in 0 0 1)\n', dirty) == (('refused', 8, 2), dirty)
     assert run(b'(put 1 5)\n(hold 2 0 1)\n', dirty) == (('stop', 21, 2), dirty[:1] + [5000] + dirty[2:])
     assert run(b'(in 0 0 9)\n(in 1 0 1)\n', [5000, 9000] + dirty[2:]) == (('stop', 22, 2), [5000, 9000] + dirty[2:])
+    closed_by_cut = (b'(in 0 0 1)\n(in 7 -1.145 -1.144)\n(put 1 (lt (reg 0) 0.5))\n(put 5 (add (div (mul (reg 1) 6917529027641.083) 0.001) (reg 7)))\n'
+        b'(put 2 (add (mul (reg 1) 0.002) (add (mul (reg 1) 0.005) (mul (reg 1) 0.011))))\n(put 3 (add (add (mul (reg 5) 0.004) 0.003) (reg 2)))\n(put 4 (div 1 (reg 3)))\n')
+    assert listing(closed_by_cut) == b'stop 20 7\n'
     print('marked values agree')

@@ -591,6 +591,55 @@ def dirty():
     add('(put 0 0)\n' + sums(1, '0', '2', '4', '8', '16') + '(put 2 (div (reg 1) (mul 2 %s)))\n(put 3 (rem (reg 1) (mul 100 %s)))\n' % (BIT, BIT), LEFT)
 
 
+# ---- products cut to their thousandths: document 02 (vii)
+
+ANY = '(mul (reg 0) (reg 2))'
+GREATEST = '9223372036854.775'
+LATE = 6917529027641081855    # four times it is 3 below the end of window 1
+CLOSED_BY_CUT = ('(in 0 0 1)\n', '(in 7 -1.145 -1.144)\n', '(put 1 (lt (reg 0) 0.5))\n', '(put 5 (add (div (mul (reg 1) 6917529027641.083) 0.001) (reg 7)))\n',
+                 '(put 2 (add (mul (reg 1) 0.002) (add (mul (reg 1) 0.005) (mul (reg 1) 0.011))))\n', '(put 3 (add (add (mul (reg 5) 0.004) 0.003) (reg 2)))\n', '(put 4 (div 1 (reg 3)))\n')
+
+
+def cut_products():
+    late = '(in 0 6917529027641081.855 6917529027641082.856)\n'
+    # a product of any two numbers: held between both ends, one short of either, and at the ends themselves
+    for ends in ('-%s %s' % (GREATEST, GREATEST), '-9223372036854.774 %s' % GREATEST, '-%s 9223372036854.774' % GREATEST): add('(put 1 %s)\n(hold 1 %s)\n' % (ANY, ends), lent_but(r0=MIN, r2=1))
+    add('(put 1 (mul (reg 0) 0.001))\n(hold 1 -%s %s)\n(put 2 (mul -0.001 (reg 0)))\n(hold 2 -%s %s)\n' % (GREATEST, GREATEST, GREATEST, GREATEST), lent_but(r0=MAX))
+    add('(put 1 (mul -9223372036854775.808 0.001))\n(hold 1 -%s -%s)\n(put 2 (mul 9223372036854775.807 0.001))\n(hold 2 %s %s)\n' % (GREATEST, GREATEST, GREATEST, GREATEST), LEFT)
+    low, high = '-9223372036854775.808', '9223372036854775.807'
+    add(''.join('(put %d (mul %s %s))\n' % (r, a, b) for r, (a, b) in enumerate(((low, low), (low, high), (high, low), (high, high), (low, '-0.001'), (high, '-0.001')))), LEFT)
+    # split: the marked product, one number at either end, {MAX} by 3 and 4, windows 0 and 1; with a page of each
+    for z in (LATE, LATE + 1, LATE + 1001): add(late + '(put 1 (mul (reg 0) 0.004))\n', lent_but(r0=z))
+    add('(in 0 6917529027641081.855 6917529027641081.856)\n(put 1 (mul (reg 0) 0.004))\n(put 3 (mul -0.004 (reg 0)))\n(put 4 (neg (reg 1)))\n', lent_but(r0=LATE + 1))
+    add('(in 0 0.003 0.004)\n(put 1 (mul %s (reg 0)))\n(put 3 (mul (reg 0) %s))\n' % (high, low), lent_but(r0=3))
+    add('(in 0 4611686018427387 4611686018427389)\n(put 1 (mul (reg 0) 0.002))\n(put 3 (mul (reg 0) (reg 0)))\n', lent_but(r0=2**62))
+    for ends in ('-%s %s' % (GREATEST, GREATEST), '-9223372036854.774 %s' % GREATEST, '-%s 9223372036854.774' % GREATEST): add(late + '(put 1 (mul (reg 0) 0.004))\n(hold 1 %s)\n' % ends, lent_but(r0=LATE))
+    # under add and sub: a divisor that a product cannot make 0, and one that it just can
+    for term in ('776', '775'):
+        add('(put 3 (add %s 9223372036854.%s))\n(put 4 (div 6 (reg 3)))\n' % (ANY, term), lent_but(r0=MIN, r2=1))
+        add('(put 4 (rem 6 (sub -9223372036854.%s %s)))\n' % (term, ANY), lent_but(r0=MIN, r2=1))
+    add('(put 1 (add %s (mul (reg 3) (reg 4))))\n(hold 1 -18446744073709.55 18446744073709.55)\n(put 5 (sub (reg 1) %s))\n' % (ANY, ANY), lent_but(r0=MAX, r2=1, r3=MAX, r4=1))
+    add('(put 1 (add %s (reg 3)))\n' % ANY, LEFT)
+    # under div and rem: 1000 times a product is a number, so no quotient wraps
+    add('(put 1 (div %s 1))\n(hold 1 -%s %s)\n(put 3 (div %s -4))\n(hold 3 -2305843009213.693 2305843009213.693)\n' % (ANY, GREATEST, GREATEST, ANY), lent_but(r0=MIN, r2=-1))
+    add('(put 1 (div %s 0.001))\n(put 3 (div 1 (add 1 (abs %s))))\n(put 4 (rem %s 7))\n' % (ANY, ANY, ANY), lent_but(r0=MAX, r2=1))
+    add(late + '(put 1 (div (mul (reg 0) 0.004) 3))\n(put 3 (div 1 (mul (reg 0) 0.004)))\n(put 4 (rem (mul (reg 0) 0.004) 1000))\n', lent_but(r0=LATE + 500))
+    # under neg, abs and mul, and compared with what no product comes to
+    add('(put 1 (abs %s))\n(hold 1 0 %s)\n(put 3 (neg %s))\n(hold 3 -%s %s)\n' % (ANY, GREATEST, ANY, GREATEST, GREATEST), lent_but(r0=MIN, r2=1))
+    add('(put 1 (mul %s 0.5))\n(hold 1 -4611686018427.387 4611686018427.387)\n(put 3 (mul 1 %s))\n(put 4 (mul 1.001 %s))\n' % (ANY, ANY, ANY), lent_but(r0=MIN, r2=1))
+    add('(put 1 (and (lt %s 9223372036854.776) (le -%s %s)))\n(hold 1 1 1)\n' % (ANY, GREATEST, ANY), LEFT)
+    add('(put 1 (ne %s 9223372036854.776))\n(hold 1 1 1)\n(put 3 (lt %s %s))\n(hold 3 1 1)\n' % (ANY, ANY, GREATEST), LEFT)
+    # gaps closed behind a cut: a sheet that passed while products reached MIN and MAX, whole, cut before its last line, and with a divisor that keeps clear of the gaps
+    seven = ''.join(CLOSED_BY_CUT)
+    whole_and_cut(''.join(CLOSED_BY_CUT[:-1]), CLOSED_BY_CUT[-1], lent_but(r0=500, r7=-1145))
+    add(seven.replace('0.003)', '0.021)'), lent_but(r0=0, r7=-1144))
+    add('(in 0 -1 1)\n' + sums(1, '(reg 3)', '2', '4', '8', '16') + '(put 1 (mul (reg 1) (add 0.5 %s)))\n(hold 1 -%s %s)\n' % (BIT, GREATEST, GREATEST), lent_but(r0=-500))
+    add('(in 0 -1 1)\n(in 3 6917529027641065.5 6917529027641066.1)\n' + sums(1, '(reg 3)', '2', '4', '8', '16') + '(put 1 (mul (reg 1) 0.004))\n(put 4 (rem (reg 1) 9))\n', lent_but(r0=-500, r3=6917529027641065900))
+    # on the last of 256 lines, and lent slices that are longer than needed, and too short
+    add(('(put 1 %s)\n' % ANY) * 255 + '(hold 1 -%s %s)\n' % (GREATEST, GREATEST), LEFT)
+    for lent, sets, work in ((20, 540, 8200), (15, 527, 8192), (16, 528, 8191)): add('(put 1 %s)\n(hold 1 -%s %s)\n' % (ANY, GREATEST, GREATEST), [500 + i for i in range(lent)], sets, work)
+
+
 # ---- writing
 
 KINDS = {'done': 0, 'pass': 0, 'stop': 1, 'refused': 2}
@@ -627,7 +676,7 @@ def record(i, text, lent, sets, work):
 def main():
     own = '(in 0 -1 2)\n(put 1 (mul (reg 0) 2.5))\n(hold 1 -3 5)\n'
     add(own, lent_at(r0=1500))
-    for part in (texts, damaged, depths, literals, orders, operations, stops, crowds, slices, wraps, rambles, pages, hidden_zeros, closings, dirty): part()
+    for part in (texts, damaged, depths, literals, orders, operations, stops, crowds, slices, wraps, rambles, pages, hidden_zeros, closings, dirty, cut_products): part()
     seen = {}
     for text, lent, sets, work in CASES:
         v = rules.check(text, [0] * sets, [0] * work)[0]

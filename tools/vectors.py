@@ -14,7 +14,7 @@ import subprocess
 import sys
 
 import reading as rules
-from reading import MIN, MAX
+from reading import MIN, MAX, GREATEST
 
 SEED = 64
 ONE_SET = ['neg', 'abs', 'not']
@@ -66,6 +66,12 @@ def named(op, left, right):
     if op == 'abs': return any(s < 0 < e or (s, e) == (MIN, MIN) for s, e in left)
     if op not in ('mul', 'div'): return False
     return any(named_pair(op, l, r) for l in left for r in right)
+
+
+def compared(op, ends):
+    """The original's answer as it is compared: that of mul is intersected with [-GREATEST, GREATEST], by document 02 (vii)."""
+    if op != 'mul': return ends
+    return [z for s, e in rules.pairs(ends) if s <= GREATEST and e >= -GREATEST for z in (max(s, -GREATEST), min(e, GREATEST))]
 
 
 def named_pair(op, l, r):
@@ -120,6 +126,53 @@ def edge(r):
     return (min(a, b), max(a, b))
 
 
+# ---- products cut to their thousandths: document 02 (vii)
+
+LATE = 6917529027641081855    # four times it is 3 below the end of window 1
+PRODUCTS = [
+    # split in windows 1 and 2, and -2 and -1: the marked product and its neighbours; pieces of one number at either end
+    ([(LATE, LATE + 1001)], [(-4, -4)]), ([(-LATE - 1001, -LATE)], [(4, 4)]), ([(4, 4)], [(LATE, LATE + 1001)]), ([(LATE, LATE + 1)], [(4, 4)]), ([(LATE - 2000, LATE + 1)], [(4, 4)]),
+    ([(LATE, LATE + 3000)], [(4, 4)]), ([(LATE, LATE)], [(4, 4)]), ([(LATE + 1, LATE + 1)], [(4, 4)]), ([(LATE + 1, LATE + 1001)], [(4, 4)]), ([(LATE - 1000, LATE)], [(4, 4)]),
+    ([(3, 4)], [(MAX, MAX)]), ([(MIN, MIN)], [(3, 4)]), ([(MIN, MIN)], [(-4, -3)]), ([(MAX, MAX)], [(-4, -3)]), ([(MAX - 1, MAX)], [(3, 3)]), ([(MIN, MIN + 1)], [(3, 3)]),
+    # in windows 0 and 1, and -1 and 0: apart, and joined to the whole range
+    ([(MAX, MAX)], [(1, 2)]), ([(MIN, MIN)], [(1, 2)]), ([(2**62, 2**62)], [(1, 2)]), ([(2**62, 2**62)], [(1, 3)]), ([(2**62, 2**62)], [(2, 3)]), ([(-2**62, -2**62)], [(2, 3)]), ([(2**61, 2**61)], [(3, 5)]),
+    ([(2**61, 2**61 + 2**60)], [(2, 4)]), ([(-2**61, -2**61)], [(3, 5)]), ([(MIN, MAX - 1)], [(-1, -1)]), ([(2**62 - 500, 2**62 + 500)], [(2, 2)]), ([(-2**62 - 500, -2**62 + 500)], [(2, 2)]),
+    # far: a distance of 2^64 - 1, one less and more, and the whole range
+    ([(0, 2**32 - 1)], [(2**32 + 1, 2**32 + 1)]), ([(0, 2**32 - 1)], [(-2**32 - 1, -2**32 - 1)]), ([(0, MAX)], [(2, 2)]), ([(MIN, 0)], [(2, 2)]), ([(MIN, MAX)], [(2, 2)]), ([(0, MAX)], [(3, 3)]),
+    ([(MIN, MAX)], [(MIN, MAX)]), ([(MIN, MAX)], [(MAX, MAX)]), ([(MIN, MIN)], [(MIN, MAX)]), ([(MIN, MAX)], [(1000, 1000)]), ([(MIN, -1)], [(1, MAX)]), ([(MIN, MAX)], [(0, 1)]),
+    # one window: products that come to -GREATEST and GREATEST, or just not
+    ([(MIN, MAX)], [(1, 1)]), ([(MIN, MAX)], [(-1, -1)]), ([(MIN, MAX)], [(0, 0)]), ([(MIN, MIN)], [(1, 1)]), ([(MAX, MAX)], [(1, 1)]), ([(MIN, MIN)], [(-1, -1)]), ([(MAX, MAX)], [(-1, -1)]),
+    ([(MIN, MIN)], [(MIN, MIN)]), ([(MIN, MIN)], [(MAX, MAX)]), ([(MAX, MAX)], [(MAX, MAX)]), ([(2**62, 2**62)], [(2, 2)]), ([(-GREATEST, GREATEST)], [(1000, 1000)]), ([(GREATEST, GREATEST)], [(1000, 1000)]),
+    ([(-GREATEST, -GREATEST)], [(1000, 1000)]), ([(-GREATEST, GREATEST)], [(1001, 1001)]), ([(GREATEST, GREATEST + 1)], [(1000, 1000)]), ([(-GREATEST - 1, -GREATEST)], [(1000, 1000)]), ([(-GREATEST - 1, GREATEST + 1)], [(1000, 1000)]),
+    ([(MAX - 808, MAX)], [(1, 1)]), ([(MAX - 807, MAX)], [(1, 1)]), ([(MIN, MIN + 809)], [(1, 1)]), ([(MIN, MIN + 808)], [(1, 1)]),
+    # sets of several intervals: a set between its cut neighbours, and one where every piece is cut
+    ([(-1145, -1144), (LATE, LATE + 1)], [(4, 4)]), ([(MIN, MIN), (0, 0), (MAX, MAX)], [(1, 1)]), ([(MIN, MIN), (MAX, MAX)], [(MIN, MIN), (MAX, MAX)]), ([(MAX, MAX)], [(3, 4), (1000, 1000)]),
+]
+
+
+def evenly(n, first, step, width):
+    return [(first + i * step, first + i * step + width) for i in range(n)]
+
+
+def products(r):
+    """Pairs of normal sets whose products are split, far, or end at -GREATEST and GREATEST; up to 16 by 16."""
+    got = list(PRODUCTS)
+    for n, m in ((16, 1), (16, 2), (1, 16), (7, 9), (16, 16)):
+        got.append((evenly(n, LATE - 8004, 1001, 1), evenly(m, 4, 8, 0)))
+        got.append((evenly(n, MIN + 5, 2**60, 10**9), evenly(m, -2**40, 2**37 + 1, 3)))
+        got.append((evenly(n, -GREATEST - 8, 3, 1), evenly(m, 992, 2, 0)))
+        got.append((some(r, n), some(r, m)))
+    got.append((evenly(16, MIN, 2**60 + 1, 2**30), evenly(16, MIN + 2**40, 2**60 - 1, 2**31)))
+    got.append((evenly(16, MAX - 31, 2, 0), evenly(16, 1, 2, 0)))
+    reach = 0
+    while reach < 25:
+        a, b = some(r, 1), some(r, r.choice((1, 1, 2)))
+        if any(MAX in i or MIN in i for x in a for y in b for i in rules.r_uncut_mul(x, y)):
+            got.append((a, b))
+            reach += 1
+    return got
+
+
 # ---- slices as they are lent, refused ones too
 
 def damaged(r):
@@ -149,7 +202,19 @@ def lent_cases(op, r):
         if op in ONE_SET: continue
         got.append((good, False, bad, r.choice((0, 500)), r.choice((0, 8))))
         got.append((bad, False, r.choice(damaged(r))[0], 0, 0))
+    if op == 'mul': got += cut_cases(r)
     return [(l, f, x, w if op in rules.K else 0, o) for l, f, x, w, o in got]
+
+
+def cut_cases(r):
+    """The products above: with enough lent, and every fourth with a work or an out that is one number short."""
+    got = []
+    for i, (a, b) in enumerate(products(r)):
+        left, right = rules.flat(a), rules.flat(b)
+        size, work = 2 * len(rules.value('mul', a, False, b)[0]), need('mul', left, right)
+        got.append((left, i % 2 == 1, right, work + r.choice((0, 0, 1, 3)), size + r.choice((0, 0, 1, 4))))
+        if i % 4 == 0: got.append((left, i % 2 == 1, right, work - i // 4 % 2, size - 1))
+    return got
 
 
 # ---- the closest setpoint: a set, and a number to ask about
@@ -244,11 +309,12 @@ def set_file(op, oracle, r):
         mark = False
         if number == 0:
             words = [int(w) for w in answer.split()]
-            ends = words[1:] if op != 'le' else [z for i in sorted(rules.pairs(words[1:])) for z in i]
+            theirs = compared(op, words[1:])
+            ends = theirs if op != 'le' else [z for i in sorted(rules.pairs(theirs)) for z in i]
             if (ends, words[0]) != (out_after[:count], int(flag_after)):
                 assert named(op, rules.pairs(left), rules.pairs(right)), (op, left, right, answer)
                 mark = True
-            mark = mark or words[1:] != out_after[:count]
+            mark = mark or theirs != out_after[:count]
         marks += mark
         refused[number] += 1
         zeroed = need(op, left, right) if number in (0, 4) else 0

@@ -61,6 +61,18 @@ static void sets(void) {
     expect(juwenfo_set_not(NULL, 0, NULL, 0).number == 0, "an empty set");
 }
 
+/* No product, in thousandths, is past GREATEST or below its negative. */
+#define GREATEST INT64_C(9223372036854775)
+
+static void products(void) {
+    expect(juwenfo_number_mul(INT64_MIN, 1) == -GREATEST && juwenfo_number_mul(INT64_MAX, 1) == GREATEST && juwenfo_number_mul(INT64_MIN, INT64_MIN) == 0, "number_mul, both ends");
+    const int64_t late[] = {INT64_C(6917529027641081855), INT64_C(6917529027641082856)}, most[] = {INT64_MAX, INT64_MAX}, all[] = {INT64_MIN, INT64_MAX};
+    is(juwenfo_set_mul(late, 2, false, E(4, 4), 2, W), false, 4, E(-GREATEST, INT64_C(-9223372036854771), GREATEST, GREATEST), "set_mul, split");
+    is(juwenfo_set_mul(most, 2, false, E(3, 4), 2, W), false, 4, E(-GREATEST, 0, GREATEST, GREATEST), "set_mul, MAX by 3 and 4");
+    is(juwenfo_set_mul(all, 2, true, all, 2, W), true, 2, E(-GREATEST, GREATEST), "set_mul, any two numbers");
+    is(juwenfo_set_div(E(INT64_C(-10000000000000000), INT64_C(10000000000000000)), 2, false, E(1000, 1000), 2, W), false, 2, all, "set_div, any number");
+}
+
 static int64_t copy[34];
 
 /* nearest gives this number and member, and leaves the set as lent. */
@@ -124,6 +136,17 @@ static void members(void) {
 }
 
 static int64_t bands[JUWENFO_SETS];
+
+/* A product of any two numbers can be held between both ends, and no closer. */
+static void held_product(void) {
+    static const uint8_t held[] = "(put 2 (mul (reg 0) (reg 1)))\n(hold 2 -9223372036854.775 9223372036854.775)\n",
+                         shorter[] = "(put 2 (mul (reg 0) (reg 1)))\n(hold 2 -9223372036854.775 9223372036854.774)\n";
+    juwenfo_verdict v = juwenfo_check(held, sizeof held - 1, bands, JUWENFO_SETS, work, JUWENFO_WORK);
+    const int64_t *two = bands + 2 * JUWENFO_SLOT;
+    expect(v.number == 0 && v.count == 2 && two[0] == 1 && two[1] == -GREATEST && two[2] == GREATEST, "check, a product held");
+    v = juwenfo_check(shorter, sizeof shorter - 1, bands, JUWENFO_SETS, work, JUWENFO_WORK);
+    expect(v.number == 21 && v.line == 2, "check, a product held too closely");
+}
 
 static void sheets(void) {
     const uint8_t text[] = "(in 0 -1 2)\n(put 1 (mul (reg 0) 2.5))\n(hold 1 -3 5)\n";
@@ -233,8 +256,10 @@ static void pages(void) {
 int main(void) {
     numbers();
     sets();
+    products();
     members();
     sheets();
+    held_product();
     dirty();
     closed();
     listings();

@@ -117,7 +117,7 @@ def _point(name, operands, result):
 number_neg, number_abs, number_not = (_point(n, 1, ctypes.c_int64) for n in ("neg", "abs", "not"))
 number_next, number_prev = (_point(n, 1, _Maybe) for n in ("next", "prev"))  # None after MAX, before MIN
 number_as_bool = _point("as_bool", 1, ctypes.c_bool)
-number_add, number_sub, number_mul = (_point(n, 2, ctypes.c_int64) for n in ("add", "sub", "mul"))
+number_add, number_sub, number_mul = (_point(n, 2, ctypes.c_int64) for n in ("add", "sub", "mul"))  # a product is from -9223372036854775 to 9223372036854775
 number_div, number_rem = (_point(n, 2, _Maybe) for n in ("div", "rem"))  # None for a divisor 0
 number_and, number_or = (_point(n, 2, ctypes.c_int64) for n in ("and", "or"))
 number_le, number_lt, number_ne = (_point(n, 2, ctypes.c_int64) for n in ("le", "lt", "ne"))
@@ -174,7 +174,7 @@ def _set_plain(name, operands):
     return call
 
 
-# A set and its flag; the keyword `flag` is the left set's, and no call asks for the right set's.
+# A set and its flag; the keyword `flag` is the left set's, and no call asks for the right set's. That of mul has nothing outside -9223372036854775 to 9223372036854775.
 set_neg, set_abs = (_set_work(n, 1) for n in ("neg", "abs"))
 set_add, set_sub, set_mul, set_div, set_rem = (_set_work(n, 2) for n in ("add", "sub", "mul", "div", "rem"))
 # A set alone: the flag of these is always false. So who chains calls keeps the OR of the flags of all answers on the way.

@@ -38,6 +38,18 @@ class Calls(unittest.TestCase):
         self.assertEqual([j.set_le([(0, 1)], [(0, 0)]), j.set_lt([(3, 3)], [(3, 3)]), j.set_ne([(3, 3)], [(3, 3)])], [[(0, 0), (1000, 1000)], [(0, 0)], [(0, 0)]])
         self.assertEqual([j.set_union([(1, 2)], [(3, 4)]), j.set_intersect([(1, 5)], [(4, 9)])], [[(1, 4)], [(4, 5)]])
 
+    def test_products(self):
+        greatest = 9223372036854775  # in thousandths: no product is past it, nor below its negative
+        self.assertEqual([j.number_mul(MIN, 1), j.number_mul(MAX, 1), j.number_mul(MIN, -1), j.number_mul(MIN, MIN)], [-greatest, greatest, -greatest, 0])
+        self.assertEqual(j.set_mul([(6917529027641081855, 6917529027641082856)], [(4, 4)]), ([(-greatest, -9223372036854771), (greatest, greatest)], False))
+        self.assertEqual(j.set_mul([(MAX, MAX)], [(3, 4)]), ([(-greatest, 0), (greatest, greatest)], False))
+        self.assertEqual(j.set_mul([(MIN, MAX)], [(MIN, MAX)], flag=True), ([(-greatest, greatest)], True))
+        self.assertEqual(j.set_div([(-(10**16), 10**16)], [(1000, 1000)]), ([(MIN, MAX)], False))  # a quotient may be any number
+        held = b"(put 2 (mul (reg 0) (reg 1)))\n(hold 2 %s)\n"
+        self.assertEqual(j.listing(held % b"-9223372036854.775 9223372036854.775"), b"pass 2\nr2 -9223372036854775..9223372036854775\n")
+        for short in (b"-9223372036854.774 9223372036854.775", b"-9223372036854.775 9223372036854.774"):
+            self.assertEqual(j.listing(held % short), b"stop 21 2\n")
+
     def test_refusals(self):
         for left, number in (([(1, 2), (3, 4)], 1), ([(3 * i, 3 * i) for i in range(17)], 2)):
             with self.assertRaises(j.Refused) as e:
@@ -52,11 +64,11 @@ class Calls(unittest.TestCase):
         self.assertEqual([j.set_nearest(far[:1], MAX), j.set_nearest(far[1:], MIN)], [MIN, MAX])
 
     def test_within(self):
-        two, far, most = [(1, 1), (5, 5)], [(MIN, MIN), (MAX, MAX)], (1 << 64) - 1
+        two, far, greatest = [(1, 1), (5, 5)], [(MIN, MIN), (MAX, MAX)], (1 << 64) - 1
         self.assertEqual([j.set_within(two, 3, d) for d in (2, 1)] + [j.set_within(two, 5, 0)], [two, [], two[1:]])
         self.assertEqual(j.set_within([(-9, -2), (4, 8)], 0, 6), [(-6, -2), (4, 6)])
-        self.assertEqual([j.set_within([(MIN, MAX)], 0, MAX), j.set_within([(MIN, MAX)], MIN, most - 1)], [[(-MAX, MAX)], [(MIN, MAX - 1)]])
-        self.assertEqual([j.set_within(far, MAX, most), j.set_within(far, MAX, most - 1)], [far, far[1:]])
+        self.assertEqual([j.set_within([(MIN, MAX)], 0, MAX), j.set_within([(MIN, MAX)], MIN, greatest - 1)], [[(-MAX, MAX)], [(MIN, MAX - 1)]])
+        self.assertEqual([j.set_within(far, MAX, greatest), j.set_within(far, MAX, greatest - 1)], [far, far[1:]])
         for room, want in ((5, (0, 4, False, [1, 1, 5, 5, 7])), (4, (0, 4, False, [1, 1, 5, 5])), (3, (4, 0, False, [7] * 3)), (0, (4, 0, False, []))):
             out = (ctypes.c_int64 * room)(*[7] * room)
             a = j._within((ctypes.c_int64 * 4)(1, 1, 5, 5), 4, 3, 2, out, room)

@@ -47,7 +47,7 @@ two!(
     sub, juwenfo_number_sub
 );
 two!(
-    /// The product as thousandths: wrapped, then divided by 1000.
+    /// The product as thousandths: wrapped, then divided by 1000, so from −9223372036854775 to 9223372036854775.
     mul, juwenfo_number_mul
 );
 two!(

@@ -92,7 +92,7 @@ two_work!(
     sub, juwenfo_set_sub
 );
 two_work!(
-    /// At least the products of members, as [`crate::number::mul`] gives them. Work: 4 numbers a pair.
+    /// At least the products of members, as [`crate::number::mul`] gives them, and nothing outside −9223372036854775 to 9223372036854775. Work: 4 numbers a pair.
     mul, juwenfo_set_mul
 );
 two_work!(

@@ -49,7 +49,6 @@ fn sets() {
     assert_eq!(one(set::abs, &[-5, 3]), (vec![0, 5], false));
     assert_eq!(two(set::add, &[MAX - 2, MAX], &[1, 1]), (vec![MIN, MIN, MAX - 1, MAX], false));
     assert_eq!(two(set::sub, &[5, 7], &[1, 2]), (vec![3, 6], false));
-    assert_eq!(two(set::mul, &[6917529027641081855, 6917529027641082856], &[4, 4]), (vec![MIN, -9223372036854771, 9223372036854775, MAX], false));
     assert_eq!(two(set::div, &[0, 0], &[-1, 1]), (vec![0, 0], true));
     assert_eq!(two(set::rem, &[7, 7], &[0, 0]), (vec![], true));
     assert_eq!(two(set::rem, &[7, 9], &[4, 4]), (vec![0, 1, 3, 3], false));
@@ -63,6 +62,23 @@ fn sets() {
     assert_eq!(plain(set::ne, &[3, 3], &[3, 4]), [0, 0, 1000, 1000]);
     assert_eq!(plain(set::union, &[1, 2], &[3, 4]), [1, 4]);
     assert_eq!(plain(set::intersect, &[1, 5, 9, 9], &[4, 10]), [4, 5, 9, 9]);
+}
+
+#[test]
+fn products() {
+    const GREATEST: i64 = 9223372036854775; // in thousandths: no product is past it, nor below its negative
+    assert_eq!((number::mul(MIN, 1), number::mul(MAX, 1), number::mul(MIN, -1), number::mul(MIN, MIN)), (-GREATEST, GREATEST, -GREATEST, 0));
+    assert_eq!(two(set::mul, &[6917529027641081855, 6917529027641082856], &[4, 4]), (vec![-GREATEST, -9223372036854771, GREATEST, GREATEST], false));
+    assert_eq!(two(set::mul, &[MAX, MAX], &[3, 4]), (vec![-GREATEST, 0, GREATEST, GREATEST], false));
+    assert_eq!(two(set::mul, &[MIN, MAX], &[MIN, MAX]), (vec![-GREATEST, GREATEST], false));
+    assert_eq!(two(set::div, &[-10_000_000_000_000_000, 10_000_000_000_000_000], &[1000, 1000]), (vec![MIN, MAX], false)); // a quotient may be any number
+    let (mut sets, mut work) = (vec![OLD; SETS], vec![OLD; WORK]);
+    let held = |ends: &str| format!("(put 2 (mul (reg 0) (reg 1)))\n(hold 2 {ends})\n");
+    assert_eq!(check(held("-9223372036854.775 9223372036854.775").as_bytes(), &mut sets, &mut work), Ok(2));
+    assert_eq!(ends(&sets, 2), [-GREATEST, GREATEST]);
+    for short in ["-9223372036854.774 9223372036854.775", "-9223372036854.775 9223372036854.774"] {
+        assert_eq!(check(held(short).as_bytes(), &mut sets, &mut work), Err(Trouble { number: 21, line: 2 }));
+    }
 }
 
 #[test]

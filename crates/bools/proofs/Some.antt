@@ -9,8 +9,8 @@ use mathlib.Core.List.{List, [], _∷_, _++_}
 use lib.IntN.{ℤ, pos}
 use lib.Signed.{_≤ℤ_, leZ, ltZ, ≤ℤ-refl}
 use Rattle.meaning.specs.Number.{smaller, larger}
-use Rattle.meaning.specs.Interval.{Interval, span, each}
-use Rattle.meaning.specs.NumberIntervals.{Set, apart, Normal, someOf, somePair, filled, share, meetPair, eachPair, insert, rebuild, intersect, intervals, flat, constant, sameNumber, neBools}
+use Rattle.meaning.specs.Interval.{Interval, span, each, meetPair}
+use Rattle.meaning.specs.NumberIntervals.{Set, apart, Normal, someOf, somePair, filled, share, eachPair, insert, rebuild, intersect, intervals, flat, constant, sameNumber, neBools}
 use Rattle.laws.proofs.Integers.{zarith, never, same-test, or-left, or-right, or-cases, suc-parts, cond-case}
 use Rattle.laws.proofs.Members.{Each}
 use Rattle.laws.proofs.Flat.{normal-even}

@@ -8,10 +8,10 @@ use mathlib.Core.List.{[], _∷_, _++_}
 use mathlib.Core.Option.{Option, none, some}
 use Rattle.meaning.specs.Number.{ONE, Between, eqZ, smaller, larger, truth, ofBool}
 use Rattle.meaning.specs.Bools.{BoolInterval, notBools, andBools, orBools}
-use Rattle.meaning.specs.Interval.{span, only, Proper, each}
-use Rattle.meaning.specs.NumberIntervals.{Set, _∈_, here, there, contains, Normal, zeroOnly, filled, asBools, ofBools, someOf, somePair, leBools, ltBools, share, constant, sameNumber, neBools, union, meetPair, intersect, eachPair, zeroFound}
+use Rattle.meaning.specs.Interval.{span, only, Proper, each, meetPair, cutTo}
+use Rattle.meaning.specs.NumberIntervals.{Set, _∈_, here, there, contains, Normal, zeroOnly, filled, asBools, ofBools, someOf, somePair, leBools, ltBools, share, constant, sameNumber, neBools, union, intersect, eachPair, zeroFound}
 use Rattle.laws.proofs.Integers.{zarith, never, clash, cond-case, and-yes, and-both, and-cases, or-left, or-right, or-cases, or-none, not-true, not-false, eqZ-is, smaller-case, larger-case, smaller-le, larger-ge}
-use Rattle.laws.proofs.Members.{AllProper, not-in-none, between, in-span, in-only, in-left, in-right, in-either, in-contains, contains-in, all-append, normal-proper, in-pairs, all-pairs, each-origin}
+use Rattle.laws.proofs.Members.{AllProper, not-in-none, between, in-span, in-only, in-left, in-right, in-either, in-contains, contains-in, all-append, all-each, normal-proper, in-pairs, all-pairs, each-origin}
 use Rattle.laws.proofs.Join.{in-rebuild, rebuild-in, rebuild-normal}
 
 -- ---- back from bools: 0 and 1000
@@ -166,7 +166,7 @@ module _ (a b : Set) (na : Normal a) (nb : Normal b) where
 -- ---- intersect: just the members of both
 
 module _ {s e t f : ℤ} where
-  pub meet-holds : {z : ℤ} → Between s z e → Between t z f → z ∈ meetPair s e t f
+  meet-holds : {z : ℤ} → Between s z e → Between t z f → z ∈ meetPair s e t f
   unfolding meetPair
   meet-holds {z} b c =
       let h = common b c in
@@ -174,7 +174,7 @@ module _ {s e t f : ℤ} where
       (λ _. here (between (h .0) (h .1)))
       (λ u. absurd (omega (zarith, h .0, h .1)))
 
-  pub meet-only : {z : ℤ} → z ∈ meetPair s e t f → Between s z e × Between t z f
+  meet-only : {z : ℤ} → z ∈ meetPair s e t f → Between s z e × Between t z f
   unfolding meetPair
   meet-only {z} m =
       let h = larger-ge s t in
@@ -192,6 +192,27 @@ module _ {s e t f : ℤ} where
       cond-case AllProper (leZ (larger s t) (smaller e f)) (span (larger s t) (smaller e f)) []
       (λ u. (record { low = omega (zarith, p .low); ordered = omega zarith; high = omega (zarith, p .high) }, tt))
       (λ u. tt)
+
+-- ---- cut to [a,b], which may lie past MIN and MAX: just the members from a to b
+
+module _ (a b : ℤ) where
+  pub cut-holds : (z : ℤ) (s : Set) → z ∈ s → Between a z b → z ∈ cutTo a b s
+  unfolding each
+  cut-holds z (i ∷ s) (here p) q = in-left (cutTo a b s) (meet-holds p q)
+  cut-holds z (i ∷ s) (there m) q = in-right (meetPair (i .lo) (i .hi) a b) (cut-holds z s m q)
+  cut-holds z [] m q = not-in-none m
+
+  pub cut-only : (z : ℤ) (s : Set) → z ∈ cutTo a b s → (z ∈ s) × Between a z b
+  unfolding each
+  cut-only z [] m = not-in-none m
+  cut-only z (i ∷ s) m =
+      elim (in-either (meetPair (i .lo) (i .hi) a b) m) [
+        | inl k ↦ (let c = meet-only k in (here (c .0), c .1))
+        | inr k ↦ (let c = cut-only z s k in (there (c .0), c .1))
+      ]
+
+  pub cut-proper : Proper a b → (s : Set) → AllProper s → AllProper (cutTo a b s)
+  cut-proper p s h = all-each Proper Proper (λ t e. meetPair t e a b) s h (λ t e q. meet-proper q p)
 
 module _ (a b : Set) (na : Normal a) (nb : Normal b) where
   meets-proper : AllProper (eachPair meetPair a b)

@@ -8,16 +8,16 @@ use mathlib.Core.List.{List}
 use mathlib.Core.Option.{Option, none, some}
 use Prim.Native.Nat.{ℕ}
 use native.Mathlib.Omega.{arith}
-use Rattle.meaning.specs.Number.{Between, eqZ, Op1, neg, abs, not′, Op2, add, sub, mul, div, rem, le, lt, ne, and, or, negative, absolute, sum, difference, ratio, quotient, remainder, point1, point2}
-use Rattle.meaning.specs.Interval.{Interval, Proper, each, PairOp, negPair, absPair, addPair, subPair, mulPair, divPair, remPair}
-use Rattle.meaning.specs.NumberIntervals.{Set, _∈_, Normal, rebuild, eachPair, set1, set2, flag1, flag2}
+use Rattle.meaning.specs.Number.{Between, leastProduct, greatestProduct, eqZ, Op1, neg, abs, not′, Op2, add, sub, mul, div, rem, le, lt, ne, and, or, negative, absolute, sum, difference, ratio, quotient, remainder, point1, point2}
+use Rattle.meaning.specs.Interval.{Interval, span, Proper, each, PairOp, negPair, absPair, addPair, subPair, uncutPair, mulPair, divPair, remPair}
+use Rattle.meaning.specs.NumberIntervals.{Set, _∈_, here, Normal, rebuild, intersect, eachPair, set1, set2, uncutMul, flag1, flag2}
 use Rattle.meaning.specs.Demand2.{Holds1, Holds2, Only1, Only2, FlagIs, Demand2}
 use Rattle.laws.proofs.Integers.{cond-case, eqZ-not, or-right}
-use Rattle.laws.proofs.Members.{AllProper, normal-proper, in-each, all-each, in-pairs, all-pairs, each-origin}
+use Rattle.laws.proofs.Members.{AllProper, in-span, normal-proper, in-each, all-each, in-pairs, in-pairs-of, all-pairs, each-origin}
 use Rattle.laws.proofs.Join.{in-rebuild, rebuild-in, rebuild-normal, normal-unique}
 use Rattle.laws.proofs.Sums.{From2, add-holds, add-only, add-proper, add-few, sub-holds, sub-only, sub-proper, sub-few}
 use Rattle.laws.proofs.Signs.{From1, neg-holds, neg-only, neg-proper, neg-few, abs-holds, abs-only, abs-proper, abs-few}
-use Rattle.laws.proofs.Products.{mul-holds, mul-proper, mul-few}
+use Rattle.laws.proofs.Products.{product-range, proper-products, uncut-proper, mul-in, mul-from, mul-holds, mul-proper, mul-kept, mul-few}
 use Rattle.laws.proofs.Exact.{only-not, only-le, only-lt, ne-only, and-only, or-only}
 use Rattle.laws.proofs.Quotients.{div-holds, div-proper, div-few}
 use Rattle.laws.proofs.Remainders.{rem-holds, rem-proper, rem-rules}
@@ -144,6 +144,46 @@ only-sub a b z n k m =
     let r = joined2-only subPair (λ s e t f p q. sub-proper s e t f) a b n k difference (λ s e t f p q j. sub-only p q j) m in
     record { left = r .0; right = r .1; left-in = r .2; right-in = r .3; gives = ap some (r .4) }
 
+-- ---- mul: just the members of 01's answer that are in the range of products
+
+products-normal : Normal (span leastProduct greatestProduct)
+products-normal = (proper-products, tt, tt)
+
+module _ (a b : Set) (n : Normal a) (k : Normal b) where
+  cut-proper : AllProper (eachPair mulPair a b)
+  cut-proper = results2-proper mulPair (λ s e t f p q. mul-proper p q) a b n k
+
+  uncut-all : AllProper (eachPair uncutPair a b)
+  uncut-all = results2-proper uncutPair (λ s e t f p q. uncut-proper s e t f) a b n k
+
+  uncut-normal : Normal (uncutMul a b)
+  uncut-normal = rebuild-normal (eachPair uncutPair a b) uncut-all
+
+  mul-range : {z : ℤ} → z ∈ set2 mul a b → Between leastProduct z greatestProduct
+  unfolding set2
+  mul-range m =
+      let o = each-origin Proper (λ s e. each (mulPair s e) b) a (normal-proper a n) (rebuild-in (eachPair mulPair a b) cut-proper m) in
+      let q = each-origin Proper (mulPair (o .from) (o .to)) b (normal-proper b k) (o .result) in
+      mul-from (o .from) (o .to) (q .from) (q .to) (q .result) .1
+
+  mul-into : {z : ℤ} → z ∈ set2 mul a b → z ∈ uncutMul a b
+  unfolding set2
+  mul-into m =
+      in-rebuild (in-pairs-of mulPair uncutPair a b (normal-proper a n) (normal-proper b k) (λ s e t f h. mul-from s e t f h .0) (rebuild-in (eachPair mulPair a b) cut-proper m))
+
+  mul-back : {z : ℤ} → z ∈ uncutMul a b → Between leastProduct z greatestProduct → z ∈ set2 mul a b
+  unfolding set2
+  mul-back m r =
+      in-rebuild (in-pairs-of uncutPair mulPair a b (normal-proper a n) (normal-proper b k) (λ s e t f h. mul-in s e t f h r) (rebuild-in (eachPair uncutPair a b) uncut-all m))
+
+  mul-cut : set2 mul a b ≡ intersect (uncutMul a b) (span leastProduct greatestProduct)
+  mul-cut =
+      normal-unique (set2 mul a b) (intersect (uncutMul a b) (span leastProduct greatestProduct))
+      (normal2 mul a b n k)
+      (intersect-normal (uncutMul a b) (span leastProduct greatestProduct) uncut-normal products-normal)
+      (λ z m. intersect-holds (uncutMul a b) (span leastProduct greatestProduct) uncut-normal products-normal (mul-into m) (here (mul-range m)))
+      (λ z m. let h = intersect-only (uncutMul a b) (span leastProduct greatestProduct) uncut-normal products-normal m in mul-back (h .0) (in-span (h .1)))
+
 -- ---- the flag
 
 flag-div : FlagIs div
@@ -170,6 +210,10 @@ demand2 = record {
   ne-only = λ a b x y z n k mx my m. ne-only a b z n k mx my m;
   and-only = λ a b x y z n k mx my m. and-only a b z n k mx my m;
   or-only = λ a b x y z n k mx my m. or-only a b z n k mx my m;
+  product-range = product-range;
+  mul-range = λ a b z n k m. mul-range a b n k m;
+  mul-cut = mul-cut;
+  mul-kept = mul-kept;
   union-holds = λ a b z n k m. union-holds a b n k m;
   union-only = λ a b z n k m. union-only a b n k m;
   intersect-holds = λ a b z n k m h. intersect-holds a b n k m h;

@@ -10,7 +10,7 @@ use native.Mathlib.Omega.{arith}
 use borrow.Author.Tests.{eq-eqb, eqb-true, ltb-false}
 use Rattle.meaning.specs.Lists.{All, over}
 use Rattle.meaning.specs.Refusals.{notNormal, tooMany, tooShort, noRoom}
-use Rattle.meaning.specs.Number.{InRange, Op1, neg, abs, not′, Op2, add, sub, mul, div, rem, le, lt, ne, and, or, point1}
+use Rattle.meaning.specs.Number.{Between, InRange, leastProduct, greatestProduct, Op1, neg, abs, not′, Op2, add, sub, mul, div, rem, le, lt, ne, and, or, point1}
 use Rattle.meaning.specs.NumberIntervals.{Set, _∈_, Normal, union, intersect, set1, set2, flag1, flag2, flat, intervals, normal}
 use Rattle.meaning.specs.SetCalls.{Returned, written, refused, refusal, refusal2, factor1, factor2, need1, need2, callReturns, callOut}
 use Rattle.meaning.specs.Demand2.{Only1, Only2, OnlyFilled2}
@@ -131,6 +131,9 @@ filled-only2 ne e = demand2 .ne-only
 filled-only2 and e = demand2 .and-only
 filled-only2 or e = demand2 .or-only
 
+products2 : (o : Op2) → o ≡ mul → (a b : Set) (z : ℤ) → Normal a → Normal b → z ∈ set2 o a b → Between leastProduct z greatestProduct
+products2 o e a b z n k m = demand2 .mul-range a b z n k (subst (λ (p : Op2). z ∈ set2 p a b) e m)
+
 -- ---- two operands: `answer` is what the definitions give
 
 module _ (need : ℕ) (answer : Set) (flag : Bool) (left right out work : List ℤ) (h : All InRange left) (g : All InRange right)
@@ -198,6 +201,7 @@ demand2-calls = record {
         stands = wrote-ends (refusal2 left right) need answer f out work (wrote2 need answer f left right out work h g e) (demand2 .normal2 o (intervals left) (intervals right) n k);
         holds = λ x y z mx my r. subst (λ (a : Set). z ∈ a) s (demand2 .holds2 o (intervals left) (intervals right) z n k (record { left = x; right = y; left-in = mx; right-in = my; gives = r }));
         only = λ x z m. only2 o x (intervals left) (intervals right) z n k (subst (λ (a : Set). z ∈ a) (sym s) m);
+        products = λ q z m. products2 o q (intervals left) (intervals right) z n k (subst (λ (a : Set). z ∈ a) (sym s) m);
         filled-only = λ e x y z mx my m. filled-only2 o e (intervals left) (intervals right) x y z n k mx my (subst (λ (a : Set). z ∈ a) (sym s) m);
         flagged = flagged (refusal2 left right) need answer f out work (wrote2 need answer f left right out work h g e);
       };

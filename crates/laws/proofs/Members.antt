@@ -4,7 +4,7 @@ use lib.ListN.{length, length-append}
 use lib.Signed.{_≤ℤ_, ≤ℤ-refl}
 use mathlib.Core.Path.{_≡_, refl, sym, ap₂}
 use mathlib.Core.Bool.{true}
-use mathlib.Core.Logic.{_⊎_, inl, inr}
+use mathlib.Core.Logic.{_⊎_, inl, inr, ⊎-elim}
 use mathlib.Core.List.{List, [], _∷_, _++_}
 use Prim.Native.Nat.{ℕ, _*_, _≤_}
 use native.Mathlib.Omega.{arith}
@@ -128,7 +128,18 @@ each-origin P g {z} (i ∷ r) p m = go (in-either (g (i .lo) (i .hi)) m) (λ n. 
     go (inl n) k = record { from = i .lo; to = i .hi; has = p .0; members = λ x b. here b; result = n }
     go (inr n) k = let q = k n in record { from = q .from; to = q .to; has = q .has; members = λ x b. there (q .members x b); result = q .result }
 
+-- what is in the results of g is in those of h, if so for each interval
+pub in-each-of : (P : ℤ → ℤ → Type 0) (g h : ℤ → ℤ → List Interval) {z : ℤ} (l : List Interval) → Each P l → ((a b : ℤ) → P a b → z ∈ g a b → z ∈ h a b) → z ∈ each g l → z ∈ each h l
+unfolding each
+in-each-of P g h [] p k m = m
+in-each-of P g h (i ∷ r) p k m =
+    ⊎-elim (λ n. in-left (each h r) (k (i .lo) (i .hi) (p .0) n)) (λ n. in-right (h (i .lo) (i .hi)) (in-each-of P g h r (p .1) k n)) (in-either (g (i .lo) (i .hi)) m)
+
 -- ---- the results of f on each pair
+
+pub in-pairs-of : (f g : PairOp) {z : ℤ} (a b : List Interval) → AllProper a → AllProper b
+    → ((s e t u : ℤ) → z ∈ f s e t u → z ∈ g s e t u) → z ∈ eachPair f a b → z ∈ eachPair g a b
+in-pairs-of f g a b pa pb k m = in-each-of Proper (λ s e. each (f s e) b) (λ s e. each (g s e) b) a pa (λ s e _ n. in-each-of Proper (f s e) (g s e) b pb (λ t u _ h. k s e t u h) n) m
 
 pub in-pairs : (f : PairOp) {x y z : ℤ} (a b : List Interval) → AllProper a → AllProper b → x ∈ a → y ∈ b
     → ((s e t g : ℤ) → Proper s e → Proper t g → Between s x e → Between t y g → z ∈ f s e t g) → z ∈ eachPair f a b

@@ -10,13 +10,13 @@ use native.Mathlib.Omega.{arith}
 use lib.Dec.{ltb}
 use borrow.Author.Tests.{ltb-true, ltb-false}
 use Rattle.meaning.specs.Number.{MIN, MAX, Between, InRange, smaller, larger, distance}
-use Rattle.meaning.specs.Interval.{Interval, span, Proper, each}
-use Rattle.meaning.specs.NumberIntervals.{Set, _∈_, here, there, Apart, Normal, meetPair, intersect, cutTo}
+use Rattle.meaning.specs.Interval.{Interval, span, Proper, each, meetPair, cutTo}
+use Rattle.meaning.specs.NumberIntervals.{Set, _∈_, here, there, Apart, Normal, intersect}
 use Rattle.meaning.specs.Setpoints.{nearest, near}
 use Rattle.laws.proofs.Integers.{zarith, by-test, cond-case, add-parts, sub-parts, smaller-le, larger-ge, smaller-case, larger-case, suc-parts, ≤ℤ-trans}
 use Rattle.laws.proofs.Members.{between, not-in-none, in-span, in-left, in-right, in-either, member-range, normal-proper}
 use Rattle.laws.proofs.Join.{normal-unique}
-use Rattle.laws.proofs.Compare.{meet-holds, meet-only, intersect-holds, intersect-only, intersect-normal}
+use Rattle.laws.proofs.Compare.{cut-holds, cut-only, intersect-holds, intersect-only, intersect-normal}
 use Rattle.laws.proofs.Distances.{near-between, between-near}
 use Rattle.laws.proofs.Closest.{nearest-closest}
 
@@ -27,21 +27,6 @@ module _ (a b : ℤ) where
   left-case {ℓ} : (P : Set → Type ℓ) (s e : ℤ) → (larger s a ≤ℤ smaller e b → P (span (larger s a) (smaller e b))) → P [] → P (meetPair s e a b)
   unfolding meetPair
   left-case P s e f g = cond-case P (leZ (larger s a) (smaller e b)) (span (larger s a) (smaller e b)) [] (λ t. f (omega zarith)) (λ t. g)
-
-  cut-holds : (z : ℤ) (s : Set) → z ∈ s → Between a z b → z ∈ cutTo a b s
-  unfolding each
-  cut-holds z (i ∷ s) (here p) q = in-left (cutTo a b s) (meet-holds p q)
-  cut-holds z (i ∷ s) (there m) q = in-right (meetPair (i .lo) (i .hi) a b) (cut-holds z s m q)
-  cut-holds z [] m q = not-in-none m
-
-  cut-only : (z : ℤ) (s : Set) → z ∈ cutTo a b s → (z ∈ s) × Between a z b
-  unfolding each
-  cut-only z [] m = not-in-none m
-  cut-only z (i ∷ s) m =
-      elim (in-either (meetPair (i .lo) (i .hi) a b) m) [
-        | inl k ↦ (let c = meet-only k in (here (c .0), c .1))
-        | inr k ↦ (let c = cut-only z s k in (there (c .0), c .1))
-      ]
 
   -- what follows an interval still follows it
   cut-apart : (e : ℤ) (s : Set) → Normal s → Apart e s → Apart e (cutTo a b s)

@@ -71,7 +71,7 @@ thousandth-scale = record { keeps = keeps; fits = fits }
 -- ---- the order of wrapped numbers
 
 module _ {p z q : ℤ} (b : Between p z q) where
-  same-low : window p ≡ window q → wrap p ≤ℤ wrap z
+  pub same-low : window p ≡ window q → wrap p ≤ℤ wrap z
   same-low e = omega (zarith, b .above, b .below, wrap-parts p, wrap-parts q, wrap-parts z, num (wrap-fits p), num (wrap-fits q), num (wrap-fits z))
 
   same-high : window p ≡ window q → wrap z ≤ℤ wrap q

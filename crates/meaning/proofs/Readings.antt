@@ -1,12 +1,12 @@
 -- The values of specs/Readings.antt, by computation. Assumes nothing.
 use mathlib.Core.Path.{refl}
 use Rattle.meaning.specs.Number.{within, window, wrap, negative, absolute, sum, difference, product, quotient, remainder, next, prev, point1, point2}
-use Rattle.meaning.specs.Interval.{each, without, negPair, absRest, absPair, pieces, split, spread, addPair, leastCorner, greatestCorner, mulPair, divPiece, divPart, divPair, against, remMagnitudes, ruleF, remStep, remWith, remPair}
+use Rattle.meaning.specs.Interval.{each, without, negPair, absRest, absPair, pieces, split, spread, addPair, leastCorner, greatestCorner, meetPair, uncutPair, mulPair, divPiece, divPart, divPair, against, remMagnitudes, ruleF, remStep, remWith, remPair}
 use Rattle.meaning.specs.NumberIntervals.{contains, insert, rebuild, union, asBools, ofBools, someOf, leBools, ltBools, neBools, set1, set2, flag1, flag2}
 use Rattle.meaning.specs.Readings.{Readings}
 
 pub readings : Readings
-unfolding within window wrap negative absolute sum difference product quotient remainder next prev point1 point2 each without negPair absRest absPair pieces split spread addPair leastCorner greatestCorner mulPair divPiece divPart divPair against remMagnitudes ruleF remStep remWith remPair contains insert rebuild union asBools ofBools someOf leBools ltBools neBools set1 set2 flag1 flag2
+unfolding within window wrap negative absolute sum difference product quotient remainder next prev point1 point2 each without negPair absRest absPair pieces split spread addPair leastCorner greatestCorner meetPair uncutPair mulPair divPiece divPart divPair against remMagnitudes ruleF remStep remWith remPair contains insert rebuild union asBools ofBools someOf leBools ltBools neBools set1 set2 flag1 flag2
 readings = record {
   mul-to-zero = refl;
   div-wraps = refl;

@@ -1,8 +1,8 @@
 -- The values of specs/SetpointSamples.antt, by computation. Assumes nothing.
 use mathlib.Core.Path.{refl}
 use Rattle.meaning.specs.Lists.{over}
-use Rattle.meaning.specs.Interval.{each}
-use Rattle.meaning.specs.NumberIntervals.{meetPair, normal, intervals, flat}
+use Rattle.meaning.specs.Interval.{each, meetPair}
+use Rattle.meaning.specs.NumberIntervals.{normal, intervals, flat}
 use Rattle.meaning.specs.SetCalls.{refusal, callReturns, callOut}
 use Rattle.meaning.specs.Number.{distance}
 use Rattle.meaning.specs.Setpoints.{clamp, nearer, nearestFrom, nearest, near, setpointRefusal, nearestReturns}

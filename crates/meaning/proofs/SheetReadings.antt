@@ -2,8 +2,8 @@
 use mathlib.Core.Path.{refl}
 use Rattle.meaning.specs.Lists.{over}
 use Rattle.meaning.specs.Number.{distance, within, window, wrap, negative, sum, quotient, point1, point2}
-use Rattle.meaning.specs.Interval.{each, without, negPair, pieces, split, addPair, subPair, spread, leastCorner, greatestCorner, divPiece, divPart, divPair}
-use Rattle.meaning.specs.NumberIntervals.{contains, insert, rebuild, union, meetPair, intersect, asBools, ofBools, someOf, ltBools, neBools, set1, set2, flag1, flag2, flat, intervals, normal}
+use Rattle.meaning.specs.Interval.{each, without, negPair, pieces, split, addPair, subPair, spread, leastCorner, greatestCorner, meetPair, divPiece, divPart, divPair}
+use Rattle.meaning.specs.NumberIntervals.{contains, insert, rebuild, union, intersect, asBools, ofBools, someOf, ltBools, neBools, set1, set2, flag1, flag2, flat, intervals, normal}
 use Rattle.meaning.specs.SetCalls.{factor1, factor2, refusal, refusal2, callReturns, callOut, callWork}
 use Rattle.meaning.specs.Outcome.{bind, work}
 use Rattle.meaning.specs.Sheet.{farForm, farAct, farLine, crossedAct, crossedLine}

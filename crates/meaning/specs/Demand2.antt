@@ -10,9 +10,9 @@ use mathlib.Core.Logic.{_⊎_}
 use mathlib.Core.Option.{some}
 use Prim.Native.Nat.{ℕ, _≤_}
 use Rattle.meaning.specs.Lists.{All}
-use Rattle.meaning.specs.Number.{Op1, neg, abs, not′, Op2, add, sub, mul, div, rem, le, lt, ne, and, or, point1, point2}
-use Rattle.meaning.specs.Interval.{Interval, Proper, PairOp, negPair, absPair, addPair, subPair, mulPair, divPair, remStep, remPair}
-use Rattle.meaning.specs.NumberIntervals.{Set, _∈_, Normal, rebuild, union, intersect, set1, set2, flag1, flag2}
+use Rattle.meaning.specs.Number.{Between, product, leastProduct, greatestProduct, Op1, neg, abs, not′, Op2, add, sub, mul, div, rem, le, lt, ne, and, or, point1, point2}
+use Rattle.meaning.specs.Interval.{Interval, span, Proper, PairOp, negPair, absPair, addPair, subPair, uncutPair, mulPair, divPair, remStep, remPair}
+use Rattle.meaning.specs.NumberIntervals.{Set, _∈_, Normal, rebuild, union, intersect, set1, set2, uncutMul, flag1, flag2}
 
 -- z is the point result of a member, or of a member of each set
 pub record Result1 (o : Op1) (a : Set) (z : ℤ) : Type 0 where
@@ -82,6 +82,11 @@ pub record Demand2 : Type 0 where
   pub ne-only : OnlyFilled2 ne
   pub and-only : OnlyFilled2 and
   pub or-only : OnlyFilled2 or
+  -- mul (02, (vii)): no product leaves its range, nor does a member of the answer; the answer has just the members of 01's answer that are in the range; no interval is lost by the cut
+  pub product-range : (x y : ℤ) → Between leastProduct (product x y) greatestProduct
+  pub mul-range : (a b : Set) (z : ℤ) → Normal a → Normal b → z ∈ set2 mul a b → Between leastProduct z greatestProduct
+  pub mul-cut : (a b : Set) → Normal a → Normal b → set2 mul a b ≡ intersect (uncutMul a b) (span leastProduct greatestProduct)
+  pub mul-kept : (s e t f : ℤ) → length (mulPair s e t f) ≡ length (uncutPair s e t f)
   -- the members of union and intersect
   pub union-holds : (a b : Set) (z : ℤ) → Normal a → Normal b → (z ∈ a) ⊎ (z ∈ b) → z ∈ union a b
   pub union-only : (a b : Set) (z : ℤ) → Normal a → Normal b → z ∈ union a b → (z ∈ a) ⊎ (z ∈ b)

@@ -9,7 +9,7 @@ use mathlib.Core.List.{List}
 use mathlib.Core.Option.{some}
 use Prim.Native.Nat.{_≤_}
 use Rattle.meaning.specs.Lists.{All}
-use Rattle.meaning.specs.Number.{InRange, Op1, Op2, add, sub, mul, div, rem, le, lt, ne, and, or, point1, point2}
+use Rattle.meaning.specs.Number.{Between, InRange, leastProduct, greatestProduct, Op1, Op2, add, sub, mul, div, rem, le, lt, ne, and, or, point1, point2}
 use Rattle.meaning.specs.NumberIntervals.{Set, _∈_, Normal, flag1, flag2, flat, intervals}
 use Rattle.meaning.specs.SetCalls.{Returned, returns1, out1, returns2, out2, returnsUnion, outUnion, returnsIntersect, outIntersect}
 use Rattle.meaning.specs.Demand2.{Result1, Result2}
@@ -69,6 +69,8 @@ pub record Call2 (o : Op2) (left : List ℤ) (flag : Bool) (right : List ℤ) (r
   pub stands : Stands r out
   pub holds : (x y z : ℤ) → x ∈ intervals left → y ∈ intervals right → point2 o x y ≡ some z → z ∈ shown r out
   pub only : exact2 o ≡ true → (z : ℤ) → z ∈ shown r out → Result2 o (intervals left) (intervals right) z
+  -- mul gives nothing outside the range of products (02, (vii))
+  pub products : o ≡ mul → (z : ℤ) → z ∈ shown r out → Between leastProduct z greatestProduct
   pub filled-only : exactFilled2 o ≡ true → (x y z : ℤ) → x ∈ intervals left → y ∈ intervals right → z ∈ shown r out → Result2 o (intervals left) (intervals right) z
   pub flagged : r .flag ≡ flag2 o flag (intervals left) (intervals right)
 

@@ -5,7 +5,7 @@ use lib.Signed.{leZ, ltZ, quotZ, _≤ℤ_}
 use mathlib.Core.Bool.{Bool, cond, _&&_}
 use mathlib.Core.List.{List, [], _∷_, _++_}
 use Prim.Native.Nat.{ℕ, zero, suc, _-_, _*_, _/_, _%_, _^_, min, max}
-use Rattle.meaning.specs.Number.{MIN, MAX, ONE, within, eqZ, smaller, larger, window, wrap, thousandth}
+use Rattle.meaning.specs.Number.{MIN, MAX, ONE, within, eqZ, smaller, larger, window, wrap, thousandth, leastProduct, greatestProduct}
 
 pub record Interval : Type 0 where
   pub lo : ℤ
@@ -35,6 +35,14 @@ without c s e =
     cond (within s c e)
     (cond (ltZ s c) (span s (predℤ c)) [] ++ cond (ltZ c e) (span (sucℤ c) e) [])
     (span s e)
+
+-- what two intervals have in common
+unfoldable pub meetPair : ℤ → ℤ → ℤ → ℤ → List Interval
+meetPair s e t f = cond (leZ (larger s t) (smaller e f)) (span (larger s t) (smaller e f)) []
+
+-- each interval cut to [lo,hi], whose ends may lie past MIN and MAX; one without a number there is dropped
+abbrev pub cutTo : ℤ → ℤ → List Interval → List Interval
+cutTo lo hi a = each (λ s e. meetPair s e lo hi) a
 
 -- ---- neg: [−e,−s]; but [MIN,e], e ≠ MIN, gives [−e,MAX] and {MIN}; {MIN} gives {MIN}
 
@@ -108,8 +116,13 @@ leastCorner op s e t f = smaller (smaller (op s t) (op s f)) (smaller (op e t) (
 unfoldable pub greatestCorner : (ℤ → ℤ → ℤ) → ℤ → ℤ → ℤ → ℤ → ℤ
 greatestCorner op s e t f = larger (larger (op s t) (op s f)) (larger (op e t) (op e f))
 
+-- the rule of 01, before the cut of 02, (vii)
+unfoldable pub uncutPair : ℤ → ℤ → ℤ → ℤ → List Interval
+uncutPair s e t f = pieces thousandth (spread (leastCorner _*ℤ_ s e t f) (greatestCorner _*ℤ_ s e t f))
+
+-- each interval of the rule is cut to the range of products (02, (vii)); none is dropped: `mul-kept` of Demand2
 unfoldable pub mulPair : ℤ → ℤ → ℤ → ℤ → List Interval
-mulPair s e t f = pieces thousandth (spread (leastCorner _*ℤ_ s e t f) (greatestCorner _*ℤ_ s e t f))
+mulPair s e t f = cutTo leastProduct greatestProduct (uncutPair s e t f)
 
 -- ---- div
 

@@ -26,8 +26,8 @@ pub record Marked : Type 0 where
   pub add-near : Answers2 add (span MIN (minus 1)) (span (pos 0) MAX) (span MIN (pos (2 ^ 63 - 2))) false
   -- [MIN,0]+[0,MAX]: [MIN,MAX]
   pub add-all : Answers2 add (span MIN (pos 0)) (span (pos 0) MAX) (span MIN MAX) false
-  -- [6917529027641081855,6917529027641082856]×{4}: [MIN,−9223372036854771],[9223372036854775,MAX]
-  pub mul-neighbours : Answers2 mul (span (pos 6917529027641081855) (pos 6917529027641082856)) (only (pos 4)) (span MIN (minus 9223372036854771) ++ span (pos 9223372036854775) MAX) false
+  -- [6917529027641081855,6917529027641082856]×{4}: [−9223372036854775,−9223372036854771] and {9223372036854775} (02, (vii))
+  pub mul-neighbours : Answers2 mul (span (pos 6917529027641081855) (pos 6917529027641082856)) (only (pos 4)) (span (minus 9223372036854775) (minus 9223372036854771) ++ only (pos 9223372036854775)) false
   -- [−10^16,10^16]/{1000}: [MIN,MAX]
   pub div-far : Answers2 div (span (minus (10 ^ 16)) (pos (10 ^ 16))) (only (pos 1000)) (span MIN MAX) false
   -- {0}/[−1,1]: {0}, flag

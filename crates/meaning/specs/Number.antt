@@ -97,6 +97,13 @@ difference x y = wrap (x -ℤ y)
 unfoldable pub product : ℤ → ℤ → ℤ
 product x y = thousandth (wrap (x *ℤ y))
 
+-- the range of products (02, (vii)): MIN and MAX, divided by 1000
+abbrev pub leastProduct : ℤ
+leastProduct = minus 9223372036854775
+
+abbrev pub greatestProduct : ℤ
+greatestProduct = pos 9223372036854775
+
 -- 1000 times the dividend, wrapped, then divided, wrapping
 abbrev pub ratio : ℤ → ℤ → ℤ
 ratio x y = wrap (quotZ (wrap (ONE *ℤ x)) y)

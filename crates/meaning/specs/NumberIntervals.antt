@@ -6,7 +6,7 @@ use mathlib.Core.List.{List, [], _∷_, _++_}
 use mathlib.Core.Option.{Option, none, some}
 use Rattle.meaning.specs.Number.{ONE, Between, within, eqZ, smaller, larger, Op1, neg, abs, not′, Op2, add, sub, mul, div, rem, le, lt, ne, and, or}
 use Rattle.meaning.specs.Bools.{BoolInterval, notBools, andBools, orBools}
-use Rattle.meaning.specs.Interval.{Interval, span, only, Proper, each, PairOp, negPair, absPair, addPair, subPair, mulPair, divPair, remPair}
+use Rattle.meaning.specs.Interval.{Interval, span, only, Proper, each, meetPair, PairOp, negPair, absPair, addPair, subPair, uncutPair, mulPair, divPair, remPair}
 
 abbrev pub Set : Type 0
 Set = List Interval
@@ -58,16 +58,8 @@ eachPair f a b = each (λ s e. each (f s e) b) a
 unfoldable pub union : Set → Set → Set
 union a b = rebuild (a ++ b)
 
--- what two intervals have in common
-unfoldable pub meetPair : PairOp
-meetPair s e t f = cond (leZ (larger s t) (smaller e f)) (span (larger s t) (smaller e f)) []
-
 unfoldable pub intersect : Set → Set → Set
 intersect a b = rebuild (eachPair meetPair a b)
-
--- (02, (ii)) each interval cut to [lo,hi], whose ends may lie past MIN and MAX; one without a number there is dropped. What is left of a normal set is normal, so nothing is joined
-abbrev pub cutTo : ℤ → ℤ → Set → Set
-cutTo lo hi a = each (λ s e. meetPair s e lo hi) a
 
 -- ---- bools (01, "BoolInterval")
 
@@ -142,6 +134,10 @@ set2 lt a b = ofBools (ltBools a b)
 set2 ne a b = ofBools (neBools a b)
 set2 and a b = ofBools (andBools (asBools a) (asBools b))
 set2 or a b = ofBools (orBools (asBools a) (asBools b))
+
+-- mul by the rule of 01, before the cut of 02, (vii)
+abbrev pub uncutMul : Set → Set → Set
+uncutMul a b = rebuild (eachPair uncutPair a b)
 
 -- a zero found in a divisor with a nonempty left set
 abbrev pub zeroFound : Set → Set → Bool

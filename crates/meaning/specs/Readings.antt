@@ -6,7 +6,7 @@ use mathlib.Core.Bool.{true, false}
 use mathlib.Core.List.{[], _++_}
 use mathlib.Core.Option.{none, some}
 use Prim.Native.Nat.{_-_, _^_}
-use Rattle.meaning.specs.Number.{minus, MIN, MAX, neg, abs, not′, add, sub, mul, div, rem, le, lt, ne, and, or, point1, point2, next, prev}
+use Rattle.meaning.specs.Number.{minus, MIN, MAX, leastProduct, greatestProduct, neg, abs, not′, add, sub, mul, div, rem, le, lt, ne, and, or, point1, point2, next, prev}
 use Rattle.meaning.specs.Interval.{span, only}
 use Rattle.meaning.specs.NumberIntervals.{set1, set2, flag1, flag2, union}
 
@@ -82,16 +82,16 @@ pub record Readings : Type 0 where
   pub lt-either : set2 lt (span (pos 0) (pos 1)) (only (pos 1)) ≡ only (pos 0) ++ only (pos 1000)
   -- {MAX} + [0,1] is {MIN} and {MAX}
   pub add-splits : set2 add (only MAX) (span (pos 0) (pos 1)) ≡ only MIN ++ only MAX
-  -- {2^62} × [1,2], in windows 0 and 1, is everything
-  pub windows-0-1 : set2 mul (only (pos (2 ^ 62))) (span (pos 1) (pos 2)) ≡ span MIN MAX
+  -- {2^62} × [1,2], in windows 0 and 1, is the whole range of products
+  pub windows-0-1 : set2 mul (only (pos (2 ^ 62))) (span (pos 1) (pos 2)) ≡ span leastProduct greatestProduct
   -- {MAX} × [3,4], in windows 1 and 2
-  pub windows-1-2 : set2 mul (only MAX) (span (pos 3) (pos 4)) ≡ span MIN (pos 0) ++ span (pos 9223372036854775) MAX
+  pub windows-1-2 : set2 mul (only MAX) (span (pos 3) (pos 4)) ≡ span leastProduct (pos 0) ++ only greatestProduct
   -- {−2^62} × [2,3], in windows −1 and 0, is not swapped
-  pub windows-below-0 : set2 mul (only (minus (2 ^ 62))) (span (pos 2) (pos 3)) ≡ span MIN (minus 9223372036854775) ++ span (pos 4611686018427387) MAX
+  pub windows-below-0 : set2 mul (only (minus (2 ^ 62))) (span (pos 2) (pos 3)) ≡ only leastProduct ++ span (pos 4611686018427387) greatestProduct
   -- {MIN} × [3,4], in windows −2 and −1
-  pub windows-below : set2 mul (only MIN) (span (pos 3) (pos 4)) ≡ span MIN (minus 9223372036854775) ++ span (pos 0) MAX
+  pub windows-below : set2 mul (only MIN) (span (pos 3) (pos 4)) ≡ only leastProduct ++ span (pos 0) greatestProduct
   -- a distance of just 2^64 − 1 is far
-  pub mul-far : set2 mul (span MIN MAX) (only (pos 1)) ≡ span MIN MAX
+  pub mul-far : set2 mul (span MIN MAX) (only (pos 1)) ≡ span leastProduct greatestProduct
   -- a wrapped end that is MIN is divided
   pub least-scaled : set2 mul (only MIN) (only (pos 1)) ≡ only (minus 9223372036854775)
   -- the pieces of a split are divided one by one

@@ -7,7 +7,8 @@ use mathlib.Core.List.{List, [], _∷_}
 use Prim.Native.Nat.{ℕ}
 use Rattle.meaning.specs.Refusals.{emptySet}
 use Rattle.meaning.specs.Number.{distance}
-use Rattle.meaning.specs.NumberIntervals.{Set, cutTo, filled, intervals}
+use Rattle.meaning.specs.Interval.{cutTo}
+use Rattle.meaning.specs.NumberIntervals.{Set, filled, intervals}
 use Rattle.meaning.specs.SetCalls.{Returned, refusal, callReturns, callOut}
 
 -- ---- the member at least distance, the lower one on a tie
@@ -30,7 +31,7 @@ unfoldable pub nearest : Set → ℤ → ℤ
 nearest [] x = pos 0
 nearest (i ∷ s) x = nearestFrom x (clamp x (i .lo) (i .hi)) s
 
--- ---- the members within distance d: those from x − d to x + d
+-- ---- the members within distance d: those from x − d to x + d; what is left of a normal set is normal, so nothing is joined
 
 unfoldable pub near : Set → ℤ → ℕ → Set
 near s x d = cutTo (x -ℤ pos d) (x +ℤ pos d) s

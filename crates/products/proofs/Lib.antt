@@ -1,1 +1,2 @@
 pub mod SmallProducts
+pub mod Thousandths

@@ -7,7 +7,7 @@ use lib.Signed.{leZ, _≤ℤ_}
 use mir.Syntax.{w64}
 use mir.Val.{SFits}
 use Rattle.meaning.specs.Number.{Between, eqZ, window, wrap, thousandth}
-use Rattle.meaning.specs.Interval.{one, span, far, pieces, leastCorner, greatestCorner, mulPair}
+use Rattle.meaning.specs.Interval.{one, span, far, leastCorner, greatestCorner, mulPair}
 use Rattle.laws.proofs.Integers.{zarith, and-both, up-neg, down-neg, sub-parts}
 use Rattle.laws.proofs.Machine.{num, fits-out}
 use Rattle.laws.proofs.Wrapping.{wrap-parts, wrap-id}
@@ -15,6 +15,8 @@ use Rattle.laws.proofs.Spread.{spread-one}
 use Rattle.laws.proofs.Products.{least-above, greatest-below, corners-ordered}
 use Rattle.words.proofs.Halves.{mul-mono}
 use Rattle.products.specs.Narrow.{Narrow}
+use Rattle.products.specs.Thousandths.{thousandths}
+use Rattle.products.proofs.Thousandths.{thousandths-are}
 
 abbrev Small : ℤ → Type 0
 Small z = Between (negsuc 2147483647) z (pos 2147483648)
@@ -80,7 +82,6 @@ module _ (s e t f : ℤ) (h : Narrow s e) (k : Narrow t f) where
   ef-wraps = wrap-id (e *ℤ f) (fits ef)
 
   pub small-mul : span (thousandth (leastCorner _*ℤ_ s e t f)) (thousandth (greatestCorner _*ℤ_ s e t f)) ≡ mulPair s e t f
-  unfolding mulPair pieces
   small-mul =
       let p = leastCorner _*ℤ_ s e t f in
       let q = greatestCorner _*ℤ_ s e t f in
@@ -93,7 +94,7 @@ module _ (s e t f : ℤ) (h : Narrow s e) (k : Narrow t f) where
       let u = window-zero p (fits m) in
       let v = window-zero q (fits n) in
       let d : eqZ (window p) (window q) ≡ true = omega zarith in
-      ap (pieces thousandth) (ap₂ one (sym (wrap-id p (fits m))) (sym (wrap-id q (fits n))) ∙ sym (spread-one p q c d))
+      ap thousandths (ap₂ one (sym (wrap-id p (fits m))) (sym (wrap-id q (fits n))) ∙ sym (spread-one p q c d)) ∙ sym (thousandths-are s e t f)
 
 -- the test of the code
 pub is-narrow : {s e : ℤ} → (leZ (negsuc 2147483647) s && leZ e (pos 2147483648)) ≡ true → s ≤ℤ e → Narrow s e

@@ -1,9 +1,7 @@
 // mul of a pair of intervals, written from the front of a lent slice before any joining. The least and the greatest corner are taken exactly, spread over the
-// range, and divided by 1000. Special are narrow intervals, whose products are in range, so that one word is enough for them, and MIN and MAX where the
-// range is split, which are not divided.
+// range, and divided by 1000. Special are narrow intervals, whose products are in range, so that one word is enough for them, and the ends where the
+// range is split or whole: they are those of the range of products, and are not divided.
 use interval::sign::Ends;
-use number::MAX;
-use number::MIN;
 use slices::greater;
 use slices::lesser;
 use slices::put_one;
@@ -19,21 +17,26 @@ ghost use Prim.Native.Nat.{_≤_};
 ghost use lib.IntN.{pos, negsuc, _*ℤ_};
 ghost use lib.ListN.{length};
 ghost use lib.Signed.{leZ};
-ghost use Rattle.meaning.specs.Number.{thousandth};
-ghost use Rattle.meaning.specs.Interval.{Proper, pieces, leastCorner, greatestCorner, mulPair};
+ghost use Rattle.meaning.specs.Interval.{Proper, leastCorner, greatestCorner, mulPair};
 ghost use Rattle.slices.specs.Wrote.{Wrote};
 ghost use Rattle.wide.specs.Range.{rangeOf};
 ghost use Rattle.products.specs.Narrow.{Narrow};
+ghost use Rattle.products.specs.Thousandths.{thousandths};
 
-// The intervals of a range, its wrapped ends divided by 1000; MIN and MAX, the ends that the rule writes, are not divided.
+// The range of products: MIN and MAX, divided by 1000.
+const LEAST: i64 = -9223372036854775;
+
+const GREATEST: i64 = 9223372036854775;
+
+// The intervals of a range, its wrapped ends divided by 1000; the ends that the rule writes are those of the range of products.
 fn put_thousandths(out: &mut [i64], range: Range) -> usize
     requires { ⌜ 4 ≤ length (now out) ⌝ }
-    ensures { λ r. ⌜ Wrote r (pieces thousandth (rangeOf range)) (now (out .exit)) (now (out .entry)) ⌝ }
+    ensures { λ r. ⌜ Wrote r (thousandths (rangeOf range)) (now (out .exit)) (now (out .entry)) ⌝ }
 {
     match range {
-        Range::Whole => put_one(out, MIN, MAX),
+        Range::Whole => put_one(out, LEAST, GREATEST),
         Range::One(u, v) => put_one(out, milli(u), milli(v)),
-        Range::Two(u, v) => put_two(out, milli(u), MAX, MIN, milli(v)),
+        Range::Two(u, v) => put_two(out, milli(u), GREATEST, LEAST, milli(v)),
     }
 }
 

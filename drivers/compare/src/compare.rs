@@ -86,7 +86,8 @@ fn call(t: &mut Tally, lent: &mut Lent, op: &Op, left: &[i64], flag: bool, right
     t.refused[want.number as usize] += 1;
 }
 
-/// Document 01's answer; outside the differences that 01 names, the original's must be the same.
+/// Document 01's answer, as 02 amends it; outside the differences that 01 names, the original's must be the same, its product intersected with the range of
+/// products by 02 (vii).
 fn settled(t: &mut Tally, op: &Op, left: &[i64], flag: bool, right: &[i64], right_flag: bool) -> (Vec<i64>, bool) {
     let (set, mark) = reading::answer(op.name, left, flag, right);
     let ours = (ends(&set), mark);
@@ -97,6 +98,10 @@ fn settled(t: &mut Tally, op: &Op, left: &[i64], flag: bool, right: &[i64], righ
     let (mark, mut set) = set_call(op.name, flag, left, right_flag, right).unwrap();
     if op.name == "le" {
         set.sort_unstable();
+    }
+    if op.name == "mul" {
+        let cut: Vec<reading::Span> = reading::spans(&set).filter_map(reading::among_products).collect();
+        set = ends(&cut);
     }
     t.original += 1;
     if (&set, mark) != (&ours.0, ours.1) {

@@ -8,6 +8,7 @@
 //!   compare sheets FILE..                 times of the check and the page of these sheets and of the heaviest ones (where the archive has them)
 //!
 //! Outside the differences that document 01 names, its rules (reading.rs) and the original must agree; inside them the archive is held to 01's rules.
+//! The original's product is intersected with the range of products before it is compared (document 02, (vii)).
 mod bench;
 mod calls;
 mod cases;

@@ -1,10 +1,13 @@
-//! Document 01's set rules on exact integers, read anew: the answer of every set call, and which pairs of intervals 01 names as differences to the original.
+//! Document 01's set rules on exact integers, as document 02 amends them, read anew: the answer of every set call, and which pairs of intervals 01 names as
+//! differences to the original.
 pub type Span = (i128, i128);
 
 pub const MIN: i128 = i64::MIN as i128;
 pub const MAX: i128 = i64::MAX as i128;
 const WINDOW: i128 = 1 << 64;
 const FULL: Span = (MIN, MAX);
+/// No product of two numbers, divided by 1000, is past it or below its negative.
+const GREATEST: i128 = 9223372036854775;
 
 fn window(z: i128) -> i128 {
     (z - MIN).div_euclid(WINDOW)
@@ -78,13 +81,17 @@ fn corners(l: Span, r: Span, f: impl Fn(i128, i128) -> i128) -> Span {
     (*c.iter().min().unwrap(), *c.iter().max().unwrap())
 }
 
+/// What an interval has in common with the range of products, if anything.
+pub fn among_products((s, e): Span) -> Option<Span> {
+    let (s, e) = (s.max(-GREATEST), e.min(GREATEST));
+    (s <= e).then_some((s, e))
+}
+
+/// 01's rule, each of its intervals cut to the range of products: 02 (vii).
 fn mul(l: Span, r: Span, to: &mut Vec<Span>) {
     let (p, q) = corners(l, r, |x, y| x * y);
-    if q - p >= WINDOW - 1 {
-        to.push(FULL);
-    } else {
-        to.extend(spread(p, q, |z| z / 1000));
-    }
+    let uncut = if q - p >= WINDOW - 1 { vec![FULL] } else { spread(p, q, |z| z / 1000) };
+    to.extend(uncut.into_iter().filter_map(among_products));
 }
 
 fn div_plain(d: Span, r: Span, to: &mut Vec<Span>) {

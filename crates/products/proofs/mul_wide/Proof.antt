@@ -5,11 +5,12 @@ use mathlib.Core.Path.{_≡_, sym, ap, ap₂, _∙_, subst₂}
 use lib.IntN.{ℤ, _*ℤ_}
 use lib.Signed.{_≤ℤ_}
 use mir.Facts.{toZ-ofZ}
-use Rattle.meaning.specs.Number.{thousandth}
-use Rattle.meaning.specs.Interval.{Spread, leastCorner, greatestCorner, spread, pieces, mulPair}
+use Rattle.meaning.specs.Interval.{Spread, leastCorner, greatestCorner, spread}
 use Rattle.laws.proofs.Products.{corners-ordered}
 use Rattle.slices.proofs.Lent.{wrote-as}
 use Rattle.wide.specs.Exact.{held}
+use Rattle.products.specs.Thousandths.{thousandths}
+use Rattle.products.proofs.Thousandths.{thousandths-are}
 use Rattle.products.proofs.mul_wide.Statement.{statement}
 use Rattle.products.proofs.mul_wide.Tie as tie
 
@@ -43,10 +44,10 @@ same-length : tie.Need-same-length
 same-length c = search needs
 
 returns : tie.Need-returns
-unfolding mulPair
 returns c =
     let k = c .before .before .before .before .before .before in
-    wrote-as (ap (λ (r : Spread). pieces thousandth r) (c .before .before .spread-of .ensures ∙ ap₂ spread (least-is k) (greatest-is k))) (c .before .put-thousandths .ensures)
+    let x = k .before .args in
+    wrote-as (ap (λ (r : Spread). thousandths r) (c .before .before .spread-of .ensures ∙ ap₂ spread (least-is k) (greatest-is k)) ∙ sym (thousandths-are (x .s) (x .e) (x .t) (x .f))) (c .before .put-thousandths .ensures)
 
 pub mul-wide-spec : {M : Type 1} → statement M
 mul-wide-spec =

@@ -3,12 +3,13 @@
 use borrow.Author.Needs.{needs}
 use mathlib.Core.Path.{_∙_, ap, sym}
 use mathlib.Core.List.{_++_}
-use Rattle.meaning.specs.Number.{MIN, MAX, thousandth}
-use Rattle.meaning.specs.Interval.{span, pieces}
+use Rattle.meaning.specs.Number.{thousandth, leastProduct, greatestProduct}
+use Rattle.meaning.specs.Interval.{span}
 use Rattle.laws.proofs.Machine.{back}
 use Rattle.slices.proofs.Lent.{wrote-as}
 use Rattle.wide.specs.Range.{rangeOf}
 use Rattle.wide.specs.declared.spread.Range.{Range}
+use Rattle.products.specs.Thousandths.{thousandths}
 use Rattle.products.proofs.put_thousandths.Statement.{statement}
 use Rattle.products.proofs.put_thousandths.Tie as tie
 
@@ -46,16 +47,14 @@ same-length : tie.Need-same-length
 same-length c = search needs
 
 returns : tie.Need-returns
-unfolding pieces
 returns c =
     let g = c .before .before .before .enum-told .given in
-    wrote-as (sym (ap (λ (r : Range). pieces thousandth (rangeOf r)) (g .1))) (c .before .put-one .ensures)
+    wrote-as (sym (ap (λ (r : Range). thousandths (rangeOf r)) (g .1))) (c .before .put-one .ensures)
 
 same-length-2 : tie.Need-same-length-2
 same-length-2 c = search needs
 
 returns-2 : tie.Need-returns-2
-unfolding pieces
 returns-2 c =
     let v = c .before .before in
     let u = v .before in
@@ -63,13 +62,12 @@ returns-2 c =
     let g = u .before .before .before .range .given in
     let a = back (u .milli .result) (u .milli .ok) ∙ u .milli .ensures ∙ ap thousandth (back (g .0 .0) (k .0 .1)) in
     let b = back (v .milli2 .result) (v .milli2 .ok) ∙ v .milli2 .ensures ∙ ap thousandth (back (g .0 .1 .0) (k .1 .0 .1)) in
-    wrote-as ((λ i. span (a i) (b i)) ∙ sym (ap (λ (r : Range). pieces thousandth (rangeOf r)) (g .1))) (c .before .put-one2 .ensures)
+    wrote-as ((λ i. span (a i) (b i)) ∙ sym (ap (λ (r : Range). thousandths (rangeOf r)) (g .1))) (c .before .put-one2 .ensures)
 
 same-length-3 : tie.Need-same-length-3
 same-length-3 c = search needs
 
 returns-3 : tie.Need-returns-3
-unfolding pieces
 returns-3 c =
     let v = c .before .before in
     let u = v .before in
@@ -77,7 +75,7 @@ returns-3 c =
     let g = u .before .before .before .range2 .given in
     let a = back (u .milli3 .result) (u .milli3 .ok) ∙ u .milli3 .ensures ∙ ap thousandth (back (g .0 .0) (k .0 .1)) in
     let b = back (v .milli4 .result) (v .milli4 .ok) ∙ v .milli4 .ensures ∙ ap thousandth (back (g .0 .1 .0) (k .1 .0 .1)) in
-    wrote-as ((λ i. span (a i) MAX ++ span MIN (b i)) ∙ sym (ap (λ (r : Range). pieces thousandth (rangeOf r)) (g .1))) (c .before .put-two .ensures)
+    wrote-as ((λ i. span (a i) greatestProduct ++ span leastProduct (b i)) ∙ sym (ap (λ (r : Range). thousandths (rangeOf r)) (g .1))) (c .before .put-two .ensures)
 
 pub put-thousandths-spec : {M : Type 1} → statement M
 put-thousandths-spec =
