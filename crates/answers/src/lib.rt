@@ -1,4 +1,6 @@
 // What a caller in C gets in place of the library's enums: structs of numbers. Each function gives the one struct that says what the enum says.
+#![tactic(auto)]
+
 ghost use Rattle.std.specs.Prelude.{◌≡◌};
 ghost use Rattle.number.specs.Maybe.{maybe as maybe_of};
 ghost use Rattle.replies.specs.Returning.{returned};
@@ -18,7 +20,7 @@ const NONE: i64 = 0;
 
 // A number and true, or 0 and false where there is none.
 #[repr(C)]
-#[derive(Drop)]
+#[derive(Clone, Copy)]
 pub struct Maybe {
     pub number: i64,
     pub there: bool,
@@ -26,7 +28,7 @@ pub struct Maybe {
 
 // 0, how many numbers were written, and the flag; or the number of a refusal, count 0 and flag false.
 #[repr(C)]
-#[derive(Drop)]
+#[derive(Clone, Copy)]
 pub struct Answer {
     pub count: usize,
     pub number: u8,
@@ -35,7 +37,7 @@ pub struct Answer {
 
 // 0 and a member of a set; or the number of a refusal and member 0.
 #[repr(C)]
-#[derive(Drop)]
+#[derive(Clone, Copy)]
 pub struct Member {
     pub member: i64,
     pub number: u8,
@@ -43,7 +45,7 @@ pub struct Member {
 
 // 0, line 0 and the count of lines; or the number of a refusal or finding, its line, and count 0.
 #[repr(C)]
-#[derive(Drop)]
+#[derive(Clone, Copy)]
 pub struct Verdict {
     pub line: usize,
     pub count: usize,
@@ -52,7 +54,7 @@ pub struct Verdict {
 
 // 0, line 0 and how many bytes were written; or the number of a refusal or finding, its line, and count 0.
 #[repr(C)]
-#[derive(Drop)]
+#[derive(Clone, Copy)]
 pub struct Text {
     pub count: usize,
     pub line: usize,

@@ -1,4 +1,6 @@
 // BoolInterval: may be false, may be true. From a set: false if 0 is in it, true if it is neither empty nor exactly {0}; back: 0 and 1000.
+#![tactic(auto)]
+
 ghost use Rattle.std.specs.Prelude.{◌≡◌, ◌&&◌, ◌||◌, ◌<◌, ◌≤◌, length};
 ghost use Rattle.std.specs.Int.Signed.{lt_z};
 ghost use Rattle.meaning.specs.Number.{eq_z};
@@ -11,7 +13,7 @@ ghost use Rattle.bools.specs.Reading.{bools_of};
 use words::ONE;
 
 // What a truth value may be; neither, for an empty set.
-#[derive(Drop)]
+#[derive(Clone, Copy)]
 pub struct BoolInterval {
     pub bfalse: bool,
     pub btrue: bool,

@@ -1,6 +1,8 @@
 // Closing gaps of a set in a slice of ends: while more than `limit` intervals remain, the gap with the fewest missing numbers is closed, the lowest of equals.
 // One pass: the front of the slice holds the intervals read so far, closed to the limit. The next interval is one too many; either its own gap is
 // closed, or the least gap in front, whose place is known, and only then is the front searched again.
+#![tactic(auto)]
+
 ghost use Rattle.std.specs.Prelude.{◌≡◌, true, ◌+◌, ◌%◌, ◌≤◌, ◌<◌, length, ◌<ℤ◌};
 ghost use Rattle.std.proofs.Math.IntN.{suc_ℤ};
 ghost use Rattle.meaning.specs.Close.{missing as missing_of};
@@ -20,7 +22,7 @@ fn missing(e: i64, s: i64) -> u64
 }
 
 // A gap: how many numbers stand before it, behind the first start, and how many are missing in it.
-#[derive(Drop)]
+#[derive(Clone, Copy)]
 struct Gap {
     at: usize,
     missing: u64,

@@ -1,6 +1,8 @@
 // The operations on whole sets, as one core: the results of all pairs are written from the first free place of the work slice onward, and joined there. The
 // joined set stays at the front of the work slice. Special are a set without intervals, which has no pairs, a divisor that holds 0, which sets the flag, and
 // an operation on one set, whose rule is asked once for each interval: its right set is one interval that the rule does not read.
+#![tactic(auto)]
+
 ghost use Rattle.std.specs.Prelude.{◌≡◌, ◌||◌, ◌*◌, ◌/◌, ◌≤◌, length};
 ghost use Rattle.meaning.specs.Interval.{Proper, each};
 ghost use Rattle.meaning.specs.NumberIntervals.{each_pair, intervals, zero_found};
@@ -16,7 +18,7 @@ use rule::pair;
 pub mod rule;
 
 // The operations whose answer joins the results of all pairs.
-#[derive(Drop)]
+#[derive(Clone, Copy)]
 pub enum Op {
     Neg,
     Abs,
@@ -28,7 +30,7 @@ pub enum Op {
 }
 
 // The operations on two sets whose answer is 0, 1000 or both.
-#[derive(Drop)]
+#[derive(Clone, Copy)]
 pub enum Relation {
     Le,
     Lt,
@@ -38,7 +40,7 @@ pub enum Relation {
 }
 
 // How many numbers the joined set has, and its flag.
-#[derive(Drop)]
+#[derive(Clone, Copy)]
 pub struct Core {
     pub count: usize,
     pub flag: bool,

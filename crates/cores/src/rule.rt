@@ -17,9 +17,9 @@ use remainders::rem_pair;
 
 // The results of [a, b] and [c, d], written from the front of out.
 pub fn pair(op: Op, out: &mut [i64], a: i64, b: i64, c: i64, d: i64) -> usize
-    requires fact_1 { Proper a b }
-    requires fact_2 { Proper c d }
-    requires fact_3 { 2 * factor_of op ≤ length out.old }
+    requires first_proper { Proper a b }
+    requires second_proper { Proper c d }
+    requires room { 2 * factor_of op ≤ length out.old }
     ensures { Wrote result (rule_of op a b c d) out.new out.old }
 {
     match op {

@@ -1,4 +1,6 @@
 // Numbers in decimal: the digits of a number, written at the front of a lent slice of bytes. A negative number has a minus before them.
+#![tactic(auto)]
+
 ghost use Rattle.std.specs.Prelude.{◌≡◌, ◌≤◌, ◌+◌, length, drop, pos, nat_abs, ◌<ℤ◌};
 ghost use Rattle.meaning.specs.Listing.{decimal, decimal_z};
 ghost use Rattle.decimal.specs.Written.{Written};

@@ -1,4 +1,6 @@
 // Reading a form from its bytes (01, "Sheet"): its word, its arguments, its brackets.
+#![tactic(auto)]
+
 ghost use Rattle.std.specs.Prelude.{◌≡◌, ◌||◌, ◌≤◌};
 ghost use Rattle.meaning.specs.Reading.{closed as closed_at, head, start as start_of, arg as arg_at, form as form_at};
 ghost use Rattle.forms.specs.Packed.{short, long};
@@ -7,7 +9,7 @@ ghost use Rattle.forms.specs.Answer.{head_of, sizes, got_of};
 use literals::{Literal, Register, at, read_literal, read_register, tail};
 
 // The operations of one argument that a form names.
-#[derive(Drop)]
+#[derive(Clone, Copy)]
 pub enum Op1 {
     Neg,
     Abs,
@@ -15,7 +17,7 @@ pub enum Op1 {
 }
 
 // The operations of two arguments.
-#[derive(Drop)]
+#[derive(Clone, Copy)]
 pub enum Op2 {
     Add,
     Sub,
@@ -30,7 +32,7 @@ pub enum Op2 {
 }
 
 // How a form begins: its bracket, its word, a space.
-#[derive(Drop)]
+#[derive(Clone, Copy)]
 pub enum Head {
     Reg,
     One(Op1),
@@ -39,7 +41,7 @@ pub enum Head {
 }
 
 // How many bytes an argument or a form takes, and whether a literal in it is beyond MIN..MAX.
-#[derive(Drop)]
+#[derive(Clone, Copy)]
 pub enum Took {
     Bytes(usize, bool),
     Bad,

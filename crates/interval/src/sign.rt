@@ -10,8 +10,8 @@ use words::MINUS_MAX;
 
 // [-e,-s]; MIN stays, and the rest of [MIN,e] becomes [-e,MAX].
 pub fn neg_pair(out: &mut [i64], s: i64, e: i64) -> usize
-    requires fact_1 { Proper s e }
-    requires fact_2 { 4 ≤ length out.old }
+    requires first_proper { Proper s e }
+    requires room { 4 ≤ length out.old }
     ensures { Wrote result (neg_pair s e) out.new out.old }
 {
     if s == MIN {
@@ -26,7 +26,7 @@ pub fn neg_pair(out: &mut [i64], s: i64, e: i64) -> usize
 }
 
 // The two ends of one interval.
-#[derive(Drop)]
+#[derive(Clone, Copy)]
 pub struct Ends {
     pub lo: i64,
     pub hi: i64,
@@ -34,8 +34,8 @@ pub struct Ends {
 
 // The magnitudes of [s,e] where MIN is not in it.
 fn magnitudes(s: i64, e: i64) -> Ends
-    requires fact_1 { point.MIN <ℤ s }
-    requires fact_2 { s ≤ℤ e }
+    requires above_least { point.MIN <ℤ s }
+    requires first_ordered { s ≤ℤ e }
     ensures { span result.lo result.hi ≡ abs_rest s e }
 {
     if 0 <= s {
@@ -54,8 +54,8 @@ fn magnitudes(s: i64, e: i64) -> Ends
 
 // The magnitudes of [s,e]; MIN stays, and the rest of [MIN,e] goes on from -MAX.
 pub fn abs_pair(out: &mut [i64], s: i64, e: i64) -> usize
-    requires fact_1 { Proper s e }
-    requires fact_2 { 4 ≤ length out.old }
+    requires first_proper { Proper s e }
+    requires room { 4 ≤ length out.old }
     ensures { Wrote result (abs_pair s e) out.new out.old }
 {
     if s == MIN {

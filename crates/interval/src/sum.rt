@@ -33,8 +33,8 @@ fn reach_all(a: u64, b: u64) -> bool
 
 // Whether [s,e] and [t,f] are so long together.
 fn long_together(s: i64, e: i64, t: i64, f: i64) -> bool
-    requires fact_1 { Proper s e }
-    requires fact_2 { Proper t f }
+    requires first_proper { Proper s e }
+    requires second_proper { Proper t f }
     ensures { result ≡ far (s +ℤ t) (e +ℤ f) }
 {
     let a = distance(s, e);
@@ -44,9 +44,9 @@ fn long_together(s: i64, e: i64, t: i64, f: i64) -> bool
 
 // [s,e] plus [t,f].
 pub fn add_pair(out: &mut [i64], s: i64, e: i64, t: i64, f: i64) -> usize
-    requires fact_1 { Proper s e }
-    requires fact_2 { Proper t f }
-    requires fact_3 { 4 ≤ length out.old }
+    requires first_proper { Proper s e }
+    requires second_proper { Proper t f }
+    requires room { 4 ≤ length out.old }
     ensures { Wrote result (add_pair s e t f) out.new out.old }
 {
     let all = long_together(s, e, t, f);
@@ -57,9 +57,9 @@ pub fn add_pair(out: &mut [i64], s: i64, e: i64, t: i64, f: i64) -> usize
 
 // [s,e] less [t,f].
 pub fn sub_pair(out: &mut [i64], s: i64, e: i64, t: i64, f: i64) -> usize
-    requires fact_1 { Proper s e }
-    requires fact_2 { Proper t f }
-    requires fact_3 { 4 ≤ length out.old }
+    requires first_proper { Proper s e }
+    requires second_proper { Proper t f }
+    requires room { 4 ≤ length out.old }
     ensures { Wrote result (sub_pair s e t f) out.new out.old }
 {
     let all = long_together(s, e, t, f);

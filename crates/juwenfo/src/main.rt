@@ -1,5 +1,7 @@
 // Reads a sheet from standard input and writes its listing to standard output, or with the word `page` its page for the wheelhouse. What goes wrong is said on
 // standard error.
+#![tactic(auto)]
+
 ghost use Rattle.std.specs.Prelude.{◌≤◌, length};
 ghost use Rattle.juwenfo.specs.Filled.{Filled};
 
@@ -11,7 +13,7 @@ use texts::Answer;
 const ENOUGH: usize = LINES * (LINE + 1) + 1;
 
 // How many bytes were read, or that a read failed.
-#[derive(Drop)]
+#[derive(Clone, Copy)]
 enum Fill {
     Bytes(usize),
     Failed,

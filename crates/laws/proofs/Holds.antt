@@ -15,7 +15,7 @@ use Rattle.laws.proofs.Members.{between}
 use Rattle.laws.proofs.Work.{guard_ok, not_stop}
 
 -- a hold that passes: every member is from lo to hi
-pub inside_all : (lo hi : ℤ) {s : Set} {z : ℤ} → inside lo s hi ≡ true → z ∈ s → Between lo z hi
+pub inside_all : (lo hi : ℤ) {z : ℤ} {s : Set} → inside lo s hi ≡ true → z ∈ s → Between lo z hi
 unfolding inside
 inside_all lo hi {z} e (here {i} {s} b) =
     let h = and_both (le_z lo i.lo) (le_z i.hi hi && inside lo s hi) e in

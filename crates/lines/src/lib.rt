@@ -1,4 +1,6 @@
 // Reading a line of a sheet from its bytes (01, "Sheet"), without its LF: its kind, its register, LO and HI or where its form starts.
+#![tactic(auto)]
+
 ghost use Rattle.std.specs.Prelude.{◌≡◌, ◌≤◌, length};
 ghost use Rattle.meaning.specs.Reading.{begins as begins_with, on_register, bounds, whole_line, judged, read_line};
 ghost use Rattle.lines.specs.Answer.{ends as ends_at, ranged, range_line, body as body_of, line_from};
@@ -9,7 +11,7 @@ use literals::{Literal, Register, at, read_literal, read_register, tail};
 use refusals::{FAR_LITERAL, UNGRAMMATICAL};
 
 // The first word of a line.
-#[derive(Drop)]
+#[derive(Clone, Copy)]
 enum Kind {
     In,
     Put,
@@ -17,7 +19,7 @@ enum Kind {
 }
 
 // A line: its register, and LO and HI or where its form starts; or the number of the refusal.
-#[derive(Drop)]
+#[derive(Clone, Copy)]
 pub enum LineForm {
     In(usize, i64, i64),
     Put(usize, usize),

@@ -1,4 +1,6 @@
 // What the parts that show a passed sheet share: the marks of the registers with an `in` or `put`, and the ends of a register's set.
+#![tactic(auto)]
+
 ghost use Rattle.std.specs.Prelude.{◌≡◌, ◌+◌, ◌*◌, ◌<◌, length, get_or, take, drop, pos};
 ghost use Rattle.meaning.specs.Sheet.{registers};
 ghost use Rattle.meaning.specs.Reading.{read_line};

@@ -1,5 +1,7 @@
 // The listing of a text (01, "Whole listing"): the bytes that the program writes for it. The lines themselves are written
 // by `wording`; here is which of them a text has.
+#![tactic(auto)]
+
 ghost use Rattle.std.specs.Prelude.{◌≡◌, ◌++◌, ◌-◌, ◌<◌, ◌≤◌, length};
 ghost use Rattle.meaning.specs.Sheet.{registers};
 ghost use Rattle.meaning.specs.Check.{sets_need};
@@ -26,8 +28,8 @@ pub const LONGEST: usize = 11081;
 
 // The line of register r, if it is marked.
 fn marked_line(out: &mut [u8], marks: &[bool], sets: &[i64], r: usize) -> usize
-    requires marks_len { (length marks.now ≡ registers) × (length sets.now ≡ sets_need) × (r < registers) × Counted sets.now }
-    requires r_in_bounds { length (marked_line marks.now sets.now r) ≤ length out.old }
+    requires marked { (length marks.now ≡ registers) × (length sets.now ≡ sets_need) × (r < registers) × Counted sets.now }
+    requires room { length (marked_line marks.now sets.now r) ≤ length out.old }
     ensures { Written result (marked_line marks.now sets.now r) out.new out.old }
 {
     if marks[r] {
@@ -39,8 +41,8 @@ fn marked_line(out: &mut [u8], marks: &[bool], sets: &[i64], r: usize) -> usize
 
 // The lines of the registers from r on that are marked.
 fn marked_lines(out: &mut [u8], marks: &[bool], sets: &[i64], r: usize) -> usize
-    requires marks_len { (length marks.now ≡ registers) × (length sets.now ≡ sets_need) × (r ≤ registers) × Counted sets.now }
-    requires r_in_bounds { length (marked_lines marks.now sets.now r (registers - r)) ≤ length out.old }
+    requires marked { (length marks.now ≡ registers) × (length sets.now ≡ sets_need) × (r ≤ registers) × Counted sets.now }
+    requires room { length (marked_lines marks.now sets.now r (registers - r)) ≤ length out.old }
     ensures { Written result (marked_lines marks.now sets.now r (registers - r)) out.new out.old }
 {
     if r == REGISTERS {
@@ -53,7 +55,7 @@ fn marked_lines(out: &mut [u8], marks: &[bool], sets: &[i64], r: usize) -> usize
 // The listing of a sheet of n lines that the check passes with these sets.
 fn passed(out: &mut [u8], text: &[u8], sets: &[i64], n: usize) -> usize
     requires sheet { IsSheet text.now n × (length sets.now ≡ sets_need) × Counted sets.now }
-    requires registers_in_bounds { length (pass_line n ++ marked_lines (marks_after text.now n) sets.now 0 registers) ≤ length out.old }
+    requires room { length (pass_line n ++ marked_lines (marks_after text.now n) sets.now 0 registers) ≤ length out.old }
     ensures { Written result (pass_line n ++ marked_lines (marks_after text.now n) sets.now 0 registers) out.new out.old }
 {
     let mut marks = [false; REGISTERS];

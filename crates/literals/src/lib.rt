@@ -1,5 +1,7 @@
 // Literals and registers from their bytes (01, "Sheet"): digits, decimals, thousandths.
 // A reader says how many bytes it took. Past the end of a text stands byte 0, which is no byte of the grammar.
+#![tactic(auto)]
+
 ghost use Rattle.std.specs.Prelude.{◌≡◌, ◌+◌, ◌-◌, ◌*◌, ◌≤◌, min, get_or, drop, take};
 ghost use Rattle.meaning.specs.Reading.{got, digits as digits_of, needless as needless_in, scale as scale_of, signed, unsigned as unsigned_at, literal, register};
 ghost use Rattle.literals.specs.Capped.{cap, capped};
@@ -9,14 +11,14 @@ use limits::REGISTERS;
 use words::{MIN, SIGN};
 
 // A register's number and how many bytes it takes.
-#[derive(Drop)]
+#[derive(Clone, Copy)]
 pub enum Register {
     Is(usize, usize),
     None,
 }
 
 // A literal's thousandths, whether they are beyond MIN..MAX (the number is 0 then), and how many bytes it takes.
-#[derive(Drop)]
+#[derive(Clone, Copy)]
 pub enum Literal {
     Is(i64, bool, usize),
     Bad,

@@ -1,5 +1,7 @@
 // The set calls whose answer holds members of its arguments: union and intersect. A set is the ends of its intervals in a slice; `number_intervals` says which slices are sets.
 // The flag of an answer is false. Special is the empty set, which adds nothing to a union and leaves nothing of an intersection.
+#![tactic(auto)]
+
 ghost use Rattle.meaning.specs.Promises.{Unites, Meets};
 ghost use Rattle.replies.specs.Returning.{returned, Cased};
 

@@ -1,5 +1,7 @@
 // A number is an i64, a count of thousandths from MIN to MAX, and its point operations wrap at these ends. Special are MIN, which has no positive
 // counterpart and is its own negative and magnitude, and what has no answer: a divisor 0, `next` at MAX, `prev` at MIN. Each call is equal to its definition in `meaning`, specs/Number.antt.
+#![tactic(auto)]
+
 ghost use Rattle.std.specs.Prelude.{◌≡◌};
 ghost use Rattle.meaning.specs.Number as point;
 ghost use Rattle.number.specs.Maybe.{maybe};
@@ -9,7 +11,7 @@ pub use words::{MAX, MIN, ONE, neg};
 use words::{bits, milli, of_bits, quot, wrapping_mul};
 
 // A number, where there is one.
-#[derive(Drop)]
+#[derive(Clone, Copy)]
 pub enum Maybe {
     Is(i64),
     Nothing,

@@ -1,6 +1,8 @@
 // The 17 set calls, by their kinds. Sets of numbers travel as ends in slices, the flag beside them. An argument is a normal set of at most 16 intervals: sorted, no overlap, at least one
 // number missing between neighbours. Special are the empty slice, which is the empty set and which nearest and within alone refuse, an odd length, which is no set, and a divisor that holds 0, which
 // sets the flag if the left set has a member. Each call returns how many numbers it wrote and the flag (nearest: a member), or a refusal; what follows the answer, or the need of work, is as lent.
+#![tactic(auto)]
+
 pub use member_calls::{intersect, union};
 pub use product_calls::{div, mul, rem};
 pub use setpoints::{Setpoint, nearest, within};

@@ -1,5 +1,7 @@
 // The page for the wheelhouse (02, (i)): the sets of a sheet that passes, one interval on a line of 72 characters. First how many lines there are, then the lines
 // themselves, so that a short output is left as it was lent. A sheet that does not pass answers as the check does.
+#![tactic(auto)]
+
 ghost use Rattle.std.specs.Prelude.{◌≡◌, ◌*◌, ◌<◌, ◌≤◌, length};
 ghost use Rattle.meaning.specs.Sheet.{registers};
 ghost use Rattle.meaning.specs.Check.{interval_limit};
@@ -49,8 +51,8 @@ fn count_lines(marks: &[bool], sets: &[i64]) -> usize
 
 // The lines of register r, if it is marked.
 fn write_own(out: &mut [u8], marks: &[bool], sets: &[i64], r: usize) -> usize
-    requires marks_len { (length marks.now ≡ registers) × Shows sets.now × (r < registers) }
-    requires r_in_bounds { length (rows_text (own_rows marks.now sets.now r)) ≤ length out.old }
+    requires marked { (length marks.now ≡ registers) × Shows sets.now × (r < registers) }
+    requires room { length (rows_text (own_rows marks.now sets.now r)) ≤ length out.old }
     ensures { Written result (rows_text (own_rows marks.now sets.now r)) out.new out.old }
 {
     if marks[r] {
@@ -62,8 +64,8 @@ fn write_own(out: &mut [u8], marks: &[bool], sets: &[i64], r: usize) -> usize
 
 // The lines of all registers that are marked.
 fn write_lines(out: &mut [u8], marks: &[bool], sets: &[i64]) -> usize
-    requires marks_len { (length marks.now ≡ registers) × Shows sets.now }
-    requires registers_in_bounds { length (rows_text (marked_rows marks.now sets.now 0 registers)) ≤ length out.old }
+    requires marked { (length marks.now ≡ registers) × Shows sets.now }
+    requires room { length (rows_text (marked_rows marks.now sets.now 0 registers)) ≤ length out.old }
     ensures { Written result (rows_text (marked_rows marks.now sets.now 0 registers)) out.new out.old }
 {
     let mut at = 0;

@@ -1,5 +1,7 @@
 // The lines of the page for the wheelhouse (02, (i)), in bytes: 72 characters and LF for each interval. Each function writes its part at the front of the bytes that it
 // is lent, and returns how many they are. The interval from MIN to MAX has 2^64 members, one more than a word counts.
+#![tactic(auto)]
+
 ghost use Rattle.std.specs.Prelude.{◌++◌, ◌+◌, ◌*◌, ◌<◌, ◌≤◌, length, ◌≤ℤ◌};
 ghost use Rattle.meaning.specs.Bytes.{bytes};
 ghost use Rattle.meaning.specs.NumberIntervals.{Normal, intervals};

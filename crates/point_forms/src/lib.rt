@@ -1,4 +1,6 @@
 // The value of a form in a run (01, "Plain run"): point values straight from the bytes, with no tree between.
+#![tactic(auto)]
+
 ghost use Rattle.std.specs.Prelude.{◌≡◌, ◌≤◌, drop};
 ghost use Rattle.meaning.specs.Refusals.{zero_divisor};
 ghost use Rattle.meaning.specs.Outcome.{or_stop};
@@ -15,14 +17,14 @@ use number::Maybe;
 use refusals::{UNGRAMMATICAL, ZERO_DIVISOR};
 
 // A value, or the number of what stopped it.
-#[derive(Drop)]
+#[derive(Clone, Copy)]
 pub enum Num {
     Is(i64),
     Stop(u8),
 }
 
 // The value of an argument or a form, and how many bytes it takes.
-#[derive(Drop)]
+#[derive(Clone, Copy)]
 enum Value {
     Got(Num, usize),
     Bad,

@@ -1,5 +1,7 @@
 // The set calls whose answer holds at least the point results: mul, div and rem. A set is the ends of its intervals in a slice, its flag beside it; `number_intervals` says which
 // slices are sets. Special is a divisor that holds 0, which sets the flag if the left set has a member.
+#![tactic(auto)]
+
 ghost use Rattle.meaning.specs.Number as point;
 ghost use Rattle.meaning.specs.Promises.{Works2};
 ghost use Rattle.replies.specs.Returning.{returned, Cased};

@@ -1,6 +1,8 @@
 // mul of a pair of intervals, written from the front of a lent slice before any joining. The least and the greatest corner are taken exactly, spread over the
 // range, and divided by 1000. Special are narrow intervals, whose products are in range, so that one word is enough for them, and the ends where the
 // range is split or whole: they are those of the range of products, and are not divided.
+#![tactic(auto)]
+
 ghost use Rattle.std.specs.Prelude.{◌≡◌, ◌&&◌, ◌≤◌, pos, negsuc, ◌*ℤ◌, length};
 ghost use Rattle.std.specs.Int.Signed.{le_z};
 ghost use Rattle.meaning.specs.Interval.{Proper, least_corner, greatest_corner, mul_pair};
@@ -45,8 +47,8 @@ fn mul_wide(out: &mut [i64], s: i64, e: i64, t: i64, f: i64) -> usize
 
 // The least and the greatest corner of narrow intervals.
 fn narrow_corners(s: i64, e: i64, t: i64, f: i64) -> Ends
-    requires fact_1 { Narrow s e }
-    requires fact_2 { Narrow t f }
+    requires first_narrow { Narrow s e }
+    requires second_narrow { Narrow t f }
     ensures { (result.lo ≡ least_corner ◌*ℤ◌ s e t f) × (result.hi ≡ greatest_corner ◌*ℤ◌ s e t f) }
 {
     let a = wrapping_mul(s, t);
@@ -60,9 +62,9 @@ fn narrow_corners(s: i64, e: i64, t: i64, f: i64) -> Ends
 
 // [s,e] times [t,f], both narrow.
 fn mul_narrow(out: &mut [i64], s: i64, e: i64, t: i64, f: i64) -> usize
-    requires fact_1 { Narrow s e }
-    requires fact_2 { Narrow t f }
-    requires fact_3 { 4 ≤ length out.old }
+    requires first_narrow { Narrow s e }
+    requires second_narrow { Narrow t f }
+    requires room { 4 ≤ length out.old }
     ensures { Wrote result (mul_pair s e t f) out.new out.old }
 {
     let c = narrow_corners(s, e, t, f);
@@ -82,9 +84,9 @@ fn narrow(s: i64, e: i64) -> bool
 
 // [s,e] times [t,f].
 pub fn mul_pair(out: &mut [i64], s: i64, e: i64, t: i64, f: i64) -> usize
-    requires fact_1 { Proper s e }
-    requires fact_2 { Proper t f }
-    requires fact_3 { 4 ≤ length out.old }
+    requires first_proper { Proper s e }
+    requires second_proper { Proper t f }
+    requires room { 4 ≤ length out.old }
     ensures { Wrote result (mul_pair s e t f) out.new out.old }
 {
     if narrow(s, e) {

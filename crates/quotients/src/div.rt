@@ -15,10 +15,10 @@ use words::MINUS_MAX;
 
 // One spread piece D = [a,b] by R = [t,f], which holds no 0.
 fn div_piece(out: &mut [i64], a: i64, b: i64, t: i64, f: i64) -> usize
-    requires fact_1 { Proper a b }
-    requires fact_2 { t ≤ℤ f }
-    requires fact_3 { within t (pos 0) f ≡ false }
-    requires fact_4 { length (flat (div_piece a b t f)) ≤ length out.old }
+    requires first_proper { Proper a b }
+    requires second_ordered { t ≤ℤ f }
+    requires no_zero { within t (pos 0) f ≡ false }
+    requires room { length (flat (div_piece a b t f)) ≤ length out.old }
     ensures { Wrote result (div_piece a b t f) out.new out.old }
 {
     if both(a, MIN, b, t, -1, f) {
@@ -34,10 +34,10 @@ fn div_piece(out: &mut [i64], a: i64, b: i64, t: i64, f: i64) -> usize
 
 // [s,e] by a part [t,f] of the divisor.
 fn div_part(out: &mut [i64], s: i64, e: i64, t: i64, f: i64) -> usize
-    requires fact_1 { s ≤ℤ e }
-    requires fact_2 { t ≤ℤ f }
-    requires fact_3 { within t (pos 0) f ≡ false }
-    requires fact_4 { length (flat (div_part s e t f)) ≤ length out.old }
+    requires first_ordered { s ≤ℤ e }
+    requires second_ordered { t ≤ℤ f }
+    requires no_zero { within t (pos 0) f ≡ false }
+    requires room { length (flat (div_part s e t f)) ≤ length out.old }
     ensures { Wrote result (div_part s e t f) out.new out.old }
 {
     let p = exact(ONE, s);
@@ -56,9 +56,9 @@ fn div_part(out: &mut [i64], s: i64, e: i64, t: i64, f: i64) -> usize
 
 // The same where `there` says that the part is, else nothing.
 fn div_part_if(out: &mut [i64], there: bool, s: i64, e: i64, t: i64, f: i64) -> usize
-    requires fact_1 { s ≤ℤ e }
-    requires fact_2 { (there ≡ true → (t ≤ℤ f) × (within t (pos 0) f ≡ false)) }
-    requires fact_3 { length (flat (cond there (div_part s e t f) [])) ≤ length out.old }
+    requires first_ordered { s ≤ℤ e }
+    requires second_proper { (there ≡ true → (t ≤ℤ f) × (within t (pos 0) f ≡ false)) }
+    requires room { length (flat (cond there (div_part s e t f) [])) ≤ length out.old }
     ensures { Wrote result (cond there (div_part s e t f) []) out.new out.old }
 {
     if there { div_part(out, s, e, t, f) } else { 0 }
@@ -66,9 +66,9 @@ fn div_part_if(out: &mut [i64], there: bool, s: i64, e: i64, t: i64, f: i64) -> 
 
 // The quotients of [s,e] by [t,f].
 pub fn div_pair(out: &mut [i64], s: i64, e: i64, t: i64, f: i64) -> usize
-    requires fact_1 { Proper s e }
-    requires fact_2 { Proper t f }
-    requires fact_3 { 24 ≤ length out.old }
+    requires first_proper { Proper s e }
+    requires second_proper { Proper t f }
+    requires room { 24 ≤ length out.old }
     ensures { Wrote result (div_pair s e t f) out.new out.old }
 {
     if holds(t, 0, f) {

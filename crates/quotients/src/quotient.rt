@@ -24,9 +24,9 @@ fn greatest(a: i64, b: i64, c: i64, d: i64) -> i64
 
 // [s,e] by [t,f].
 pub fn put_hull(out: &mut [i64], s: i64, e: i64, t: i64, f: i64) -> usize
-    requires fact_1 { t ≢ pos 0 }
-    requires fact_2 { f ≢ pos 0 }
-    requires fact_3 { 2 ≤ length out.old }
+    requires start_not_zero { t ≢ pos 0 }
+    requires end_not_zero { f ≢ pos 0 }
+    requires room { 2 ≤ length out.old }
     ensures { Wrote result (hull s e t f) out.new out.old }
 {
     let a = quot(s, t);
@@ -40,9 +40,9 @@ pub fn put_hull(out: &mut [i64], s: i64, e: i64, t: i64, f: i64) -> usize
 
 // The same where `there` says so, else nothing.
 pub fn put_hull_if(out: &mut [i64], there: bool, s: i64, e: i64, t: i64, f: i64) -> usize
-    requires fact_1 { t ≢ pos 0 }
-    requires fact_2 { f ≢ pos 0 }
-    requires fact_3 { length (flat (cond there (hull s e t f) [])) ≤ length out.old }
+    requires start_not_zero { t ≢ pos 0 }
+    requires end_not_zero { f ≢ pos 0 }
+    requires room { length (flat (cond there (hull s e t f) [])) ≤ length out.old }
     ensures { Wrote result (cond there (hull s e t f) []) out.new out.old }
 {
     if there { put_hull(out, s, e, t, f) } else { 0 }

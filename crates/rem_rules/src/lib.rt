@@ -1,5 +1,7 @@
 // Rules (d), (e) and (f) of rem, each written from the front of a lent slice: L against {MIN}, MIN by R, and remainders of magnitudes. Special are MIN,
 // whose magnitude no i64 has, and L = {MIN}.
+#![tactic(auto)]
+
 ghost use Rattle.std.specs.Prelude.{◌≡◌, false, ◌^◌, ◌≤◌, ◌<◌, min, max, length, pos, neg_ℤ, nat_abs, ◌-ℤ◌, ◌≤ℤ◌};
 ghost use Rattle.meaning.specs.Number.{within};
 ghost use Rattle.meaning.specs.Interval.{span, against, greatest_magnitude, signed_span, rem_magnitudes, rule_f};
@@ -71,9 +73,9 @@ fn minus(n: u64) -> i64
 
 // [1-d,0], where d is the greatest magnitude in R.
 pub fn put_under(out: &mut [i64], t: i64, f: i64) -> usize
-    requires fact_1 { t ≤ℤ f }
-    requires fact_2 { within t (pos 0) f ≡ false }
-    requires fact_3 { 2 ≤ length out.old }
+    requires second_ordered { t ≤ℤ f }
+    requires no_zero { within t (pos 0) f ≡ false }
+    requires room { 2 ≤ length out.old }
     ensures { Wrote result (span (pos 1 -ℤ pos (greatest_magnitude t f)) (pos 0)) out.new out.old }
 {
     let d = high_of(magnitude(t), magnitude(f));
@@ -83,9 +85,9 @@ pub fn put_under(out: &mut [i64], t: i64, f: i64) -> usize
 
 // The magnitudes from l to h, negated if L is negative.
 fn put_signed(out: &mut [i64], negated: bool, l: u64, h: u64) -> usize
-    requires fact_1 { l < 2 ^ 63 }
-    requires fact_2 { h < 2 ^ 63 }
-    requires fact_3 { 2 ≤ length out.old }
+    requires low_fits { l < 2 ^ 63 }
+    requires high_fits { h < 2 ^ 63 }
+    requires room { 2 ≤ length out.old }
     ensures { Wrote result (signed_span negated l h) out.new out.old }
 {
     if negated {
@@ -101,11 +103,11 @@ fn put_signed(out: &mut [i64], negated: bool, l: u64, h: u64) -> usize
 
 // The remainders of magnitudes [a,b] by [c,d].
 fn put_magnitudes(out: &mut [i64], negated: bool, a: u64, b: u64, c: u64, d: u64) -> usize
-    requires fact_1 { a ≤ b }
-    requires fact_2 { 0 < c }
-    requires fact_3 { c ≤ d }
-    requires fact_4 { d ≤ 2 ^ 63 }
-    requires fact_5 { length (flat (rem_magnitudes negated a b c d)) ≤ length out.old }
+    requires first_ordered { a ≤ b }
+    requires second_positive { 0 < c }
+    requires second_ordered { c ≤ d }
+    requires second_fits { d ≤ 2 ^ 63 }
+    requires room { length (flat (rem_magnitudes negated a b c d)) ≤ length out.old }
     ensures { Wrote result (rem_magnitudes negated a b c d) out.new out.old }
 {
     if d <= b - a {
@@ -128,9 +130,9 @@ fn put_magnitudes(out: &mut [i64], negated: bool, a: u64, b: u64, c: u64, d: u64
 
 // (f)
 pub fn put_remainders(out: &mut [i64], s: i64, e: i64, t: i64, f: i64) -> usize
-    requires fact_1 { t ≤ℤ f }
-    requires fact_2 { within t (pos 0) f ≡ false }
-    requires fact_3 { length (flat (rule_f s e t f)) ≤ length out.old }
+    requires second_ordered { t ≤ℤ f }
+    requires no_zero { within t (pos 0) f ≡ false }
+    requires room { length (flat (rule_f s e t f)) ≤ length out.old }
     ensures { Wrote result (rule_f s e t f) out.new out.old }
 {
     let i = magnitude(s);

@@ -1,5 +1,7 @@
 // rem of a pair of intervals, written from the front of a lent slice before any joining: the first of six rules that fits. Special are 0 and MIN in the
 // dividend, and 0, -1 and MIN in the divisor, which are cut out.
+#![tactic(auto)]
+
 ghost use Rattle.std.specs.Prelude.{◌≡◌, true, cond, [], ◌≤◌, length, ◌≤ℤ◌};
 ghost use Rattle.meaning.specs.Number.{within};
 ghost use Rattle.meaning.specs.Interval.{Proper, cut_left, cut_right, rem_with, rem_pair};
@@ -86,9 +88,9 @@ fn rem_with(out: &mut [i64], n: usize, s: i64, e: i64, t: i64, f: i64) -> usize
 
 // The remainders of [s,e] by [t,f].
 pub fn rem_pair(out: &mut [i64], s: i64, e: i64, t: i64, f: i64) -> usize
-    requires fact_1 { Proper s e }
-    requires fact_2 { Proper t f }
-    requires fact_3 { 32 ≤ length out.old }
+    requires first_proper { Proper s e }
+    requires second_proper { Proper t f }
+    requires room { 32 ≤ length out.old }
     ensures { Wrote result (rem_pair s e t f) out.new out.old }
 {
     rem_with(out, 6, s, e, t, f)

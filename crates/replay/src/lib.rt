@@ -1,5 +1,7 @@
 // Stored cases: numbers read from a file, slices filled and compared, and a line of report for each operation. What a file holds is open: a call that reads
 // one promises at most whether there is room for it.
+#![tactic(auto)]
+
 ghost use Rattle.std.specs.Prelude.{◌≡◌, true, false, cond, ◌≤◌, leb, eqb, length, replicate};
 ghost use Rattle.meaning.specs.Lists.{over};
 ghost use Rattle.replay.specs.Tallied.{more as one_more, tallied};
@@ -93,7 +95,7 @@ pub fn same(a: &[i64], b: &[i64]) -> bool
 }
 
 // What replaying one case found: the file has no more, or the case agrees, or differs.
-#[derive(Drop)]
+#[derive(Clone, Copy)]
 pub enum Step {
     End,
     Agrees,
@@ -101,7 +103,7 @@ pub enum Step {
 }
 
 // How many cases were replayed, how many of them differ, and the number of the first that does, counted from 1. `open` says whether the file has more.
-#[derive(Drop)]
+#[derive(Clone, Copy)]
 pub struct Tally {
     pub open: bool,
     pub cases: u64,

@@ -1,4 +1,6 @@
 // What the public set calls share: their reply, the refusal of their arguments, the need of work, and the end of the call.
+#![tactic(auto)]
+
 ghost use Rattle.std.specs.Prelude.{◌≡◌, cond, ◌*◌, ◌/◌, ◌≤◌, ltb, length, take, replicate, pos};
 ghost use Rattle.meaning.specs.Lists.{over};
 ghost use Rattle.meaning.specs.Refusals.{no_room};
@@ -12,7 +14,7 @@ use sets::is_normal;
 use slices::{copy_front, zero_first};
 
 // How many numbers were written, and the flag; or the number of the refusal.
-#[derive(Drop)]
+#[derive(Clone, Copy)]
 pub enum Reply {
     Written(usize, bool),
     Refused(u8),
@@ -20,8 +22,8 @@ pub enum Reply {
 
 // 2 where a set has over 16 intervals, else 1 where it is not normal, else 0.
 pub fn refusal(s: &[i64]) -> u8
-    ensures fact_1 { result ≡ call.refusal s.now }
-    ensures fact_2 { (result ≡ 0 → Argument s.now) }
+    ensures refused { result ≡ call.refusal s.now }
+    ensures argument { (result ≡ 0 → Argument s.now) }
 {
     if ENDS < s.len() {
         return TOO_MANY;
@@ -34,8 +36,8 @@ pub fn refusal(s: &[i64]) -> u8
 
 // The left set's refusal before the right set's.
 pub fn refusal2(left: &[i64], right: &[i64]) -> u8
-    ensures fact_1 { result ≡ call.refusal2 left.now right.now }
-    ensures fact_2 { (result ≡ 0 → Argument left.now × Argument right.now) }
+    ensures refused { result ≡ call.refusal2 left.now right.now }
+    ensures arguments { (result ≡ 0 → Argument left.now × Argument right.now) }
 {
     let k = refusal(left);
     if k == 0 {

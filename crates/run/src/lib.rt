@@ -1,5 +1,7 @@
 // The run of a sheet (01, "Plain run"): one number a register, line after line.
 // The lent numbers are copied first: they are the state at the start, and an `in` reads them as they were lent, whatever is written afterwards.
+#![tactic(auto)]
+
 ghost use Rattle.std.specs.Prelude.{◌≡◌, ◌≤◌, length};
 ghost use Rattle.meaning.specs.Sheet.{registers};
 ghost use Rattle.meaning.specs.Lists.{All};
@@ -15,7 +17,7 @@ use sheet::{Judgement, judge_text, line_end};
 use slices::copy_front;
 
 // Done with the count of lines, stopped at a line, or refused.
-#[derive(Drop)]
+#[derive(Clone, Copy)]
 pub enum Answer {
     Done(usize),
     Stopped(u8, usize),
@@ -25,8 +27,8 @@ pub enum Answer {
 // The numbers lent for the registers, which are from MIN to MAX.
 fn lent_numbers(lent: &[i64]) -> [i64; REGISTERS]
     requires { registers ≤ length lent.now }
-    ensures fact_1 { result ≡ start_numbers lent.now }
-    ensures fact_2 { All InRange (start_numbers lent.now) }
+    ensures value { result ≡ start_numbers lent.now }
+    ensures in_range { All InRange (start_numbers lent.now) }
 {
     let mut numbers = [0; REGISTERS];
     let mut i = 0;
@@ -40,11 +42,11 @@ fn lent_numbers(lent: &[i64]) -> [i64; REGISTERS]
 
 // The lines of a sheet, with its count of lines.
 fn work(text: &[u8], lent: &mut [i64], count: usize) -> Answer
-    requires registers_in_bounds { registers ≤ length lent.old }
+    requires enough { registers ≤ length lent.old }
     requires sheet { IsSheet text.now count }
     ensures value { result ≡ answer_for (run_text lent.old text.now) }
     ensures lent_after { lent.new ≡ left_by lent.old (run_text lent.old text.now) }
-    ensures all { All InRange (start_numbers lent.old) }
+    ensures in_range { All InRange (start_numbers lent.old) }
 {
     let given = lent_numbers(lent);
     let mut state = given;

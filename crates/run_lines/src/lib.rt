@@ -1,4 +1,6 @@
 // One line of a run (01, "Plain run") on one number a register: a line is worked, or stops and leaves the state as it was.
+#![tactic(auto)]
+
 ghost use Rattle.std.specs.Prelude.{◌≡◌, cond, ◌<◌, set};
 ghost use Rattle.meaning.specs.Number.{within as within_of};
 ghost use Rattle.meaning.specs.Sheet.{registers};
@@ -10,7 +12,7 @@ use point_forms::{Num, value_at};
 use refusals::{HOLD_BROKEN, OUTSIDE_IN};
 
 // A line is worked, or stops with a number.
-#[derive(Drop)]
+#[derive(Clone, Copy)]
 pub enum Step {
     Go,
     Stop(u8),

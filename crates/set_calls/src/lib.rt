@@ -1,4 +1,6 @@
 // One text for the public calls of a kind: the refusals in their order, the operation by its name, and the end of the call.
+#![tactic(auto)]
+
 ghost use Rattle.std.specs.Prelude.{◌≡◌, false, [], ◌≤◌, length};
 ghost use Rattle.meaning.specs.Number as point;
 ghost use Rattle.meaning.specs.NumberIntervals.{intervals, of_bools};
@@ -15,7 +17,7 @@ use refusals::TOO_SHORT;
 use replies::{Reply, finish, hand_out, need, refusal, refusal2};
 
 // The calls whose answer is made by one walk over both sets.
-#[derive(Drop)]
+#[derive(Clone, Copy)]
 pub enum Walk {
     Union,
     Intersect,
@@ -37,10 +39,10 @@ pub fn joined(
     work: &mut [i64],
     out: &mut [i64],
 ) -> Reply
-    ensures fact_1 { Ended (refused2 left.now right.now) (need2 (factor_of op) left.now right.now)
+    ensures ended { Ended (refused2 left.now right.now) (need2 (factor_of op) left.now right.now)
         (set_of op (intervals left.now) (intervals right.now)) (flag_of op flag (intervals left.now) (intervals right.now))
         out.old work.old result out.new work.new }
-    ensures fact_2 { (refused2 left.now right.now ≡ 0 → Argument left.now × Argument right.now) }
+    ensures arguments { (refused2 left.now right.now ≡ 0 → Argument left.now × Argument right.now) }
 {
     let k = refusal2(left, right);
     if k != 0 {
@@ -67,9 +69,9 @@ fn hand_bools(out: &mut [i64], may: BoolInterval) -> Reply
 
 // The answer is 0, 1000 or both.
 pub fn related(op: Relation, left: &[i64], right: &[i64], out: &mut [i64]) -> Reply
-    ensures fact_1 { (result ≡ reply_for (returns2 (op2_of op) left.now false right.now out.old []))
+    ensures answered { (result ≡ reply_for (returns2 (op2_of op) left.now false right.now out.old []))
         × (out.new ≡ out2 (op2_of op) left.now false right.now out.old []) }
-    ensures fact_2 { (refused2 left.now right.now ≡ 0 → Argument left.now × Argument right.now) }
+    ensures arguments { (refused2 left.now right.now ≡ 0 → Argument left.now × Argument right.now) }
 {
     let k = refusal2(left, right);
     if k != 0 {
@@ -80,9 +82,9 @@ pub fn related(op: Relation, left: &[i64], right: &[i64], out: &mut [i64]) -> Re
 
 // The opposite: the answer is 0, 1000 or both.
 pub fn negated(left: &[i64], out: &mut [i64]) -> Reply
-    ensures fact_1 { (result ≡ reply_for (returns1 point.not' left.now false out.old []))
+    ensures answered { (result ≡ reply_for (returns1 point.not' left.now false out.old []))
         × (out.new ≡ out1 point.not' left.now false out.old []) }
-    ensures fact_2 { (refused1 left.now ≡ 0 → Argument left.now) }
+    ensures argument { (refused1 left.now ≡ 0 → Argument left.now) }
 {
     let k = refusal(left);
     if k != 0 {
@@ -106,9 +108,9 @@ fn walk_into(op: Walk, ends: &mut [i64], left: &[i64], right: &[i64]) -> usize
 
 // The answer is made by one walk over both sets.
 pub fn walked(op: Walk, left: &[i64], right: &[i64], out: &mut [i64]) -> Reply
-    ensures fact_1 { Handed (refused2 left.now right.now) 0 (walk_of op (intervals left.now) (intervals right.now)) false
+    ensures handed { Handed (refused2 left.now right.now) 0 (walk_of op (intervals left.now) (intervals right.now)) false
         out.old result out.new }
-    ensures fact_2 { (refused2 left.now right.now ≡ 0 → Argument left.now × Argument right.now) }
+    ensures arguments { (refused2 left.now right.now ≡ 0 → Argument left.now × Argument right.now) }
 {
     let k = refusal2(left, right);
     if k != 0 {

@@ -1,4 +1,6 @@
 // The set of a form straight from its bytes (01, "Sheet"): left argument, right, form. The form reader and the argument reader call each other, and the brackets left fall.
+#![tactic(auto)]
+
 ghost use Rattle.std.specs.Prelude.{◌≡◌, ◌≤◌, length};
 ghost use Rattle.meaning.specs.Reading.{bad, closed as closed_at, arg as arg_at, form as form_at};
 ghost use Rattle.set_values.specs.Value.{Shown, values};
@@ -10,7 +12,7 @@ use refusals::UNGRAMMATICAL;
 use set_values::SetV;
 
 // What is read: whether it is in the grammar, how many bytes it takes, and its set.
-#[derive(Drop)]
+#[derive(Clone, Copy)]
 pub struct SetRead {
     pub good: bool,
     pub next: usize,

@@ -1,4 +1,6 @@
 // One line of a sheet on the sets of the registers (01, "Sheet"), as the check shows them: for each register how many intervals its set has and 32 for their ends.
+#![tactic(auto)]
+
 ghost use Rattle.std.specs.Prelude.{◌≡◌, ◌&&◌, ◌+◌, ◌≤◌, ◌<◌, pos, length, get_or, drop, replicate};
 ghost use Rattle.std.specs.Int.Signed.{le_z};
 ghost use Rattle.meaning.specs.NumberIntervals.{intervals};

@@ -1,5 +1,7 @@
 // A form's set by value, and the answer of an operation on such sets (01, "Sheet", as requests (iii) and (v) amend it): 20 if a divisor may be 0, else its set with gaps closed until 16 intervals remain.
 // A value that stops has no set: its count and its ends are 0.
+#![tactic(auto)]
+
 ghost use Rattle.std.specs.Prelude.{◌≡◌, false, ◌≤◌, ◌<◌, length, take, pos, ◌≤ℤ◌};
 ghost use Rattle.std.proofs.Math.Option.{some};
 ghost use Rattle.meaning.specs.Outcome.{ok, stop};
@@ -20,7 +22,7 @@ use limits::{ENDS, INTERVALS, SLOT};
 use refusals::ZERO_DIVISOR;
 
 // The number of the trouble, or 0; how many intervals the set has, and room for their ends, 0 past them.
-#[derive(Drop)]
+#[derive(Clone, Copy)]
 pub struct SetV {
     pub stop: u8,
     pub count: usize,
@@ -121,7 +123,7 @@ fn core1(op: Op1, left: &[i64], work: &mut [i64]) -> Core
 }
 
 // How the answer of an operation on two sets is made: joined of all pairs' results, or 0, 1000 or both.
-#[derive(Drop)]
+#[derive(Clone, Copy)]
 enum Kind {
     Joined(Op),
     Related(Relation),

@@ -1,5 +1,7 @@
 // Closest permitted setpoint: the member of a set closest to a number, and the members within a distance of it. A set is the ends of its intervals in a slice.
 // Distances are exact, from 0 to 2^64 - 1. Special are the empty set, which is refused, a number that is itself a member, and a distance that reaches past MIN or MAX.
+#![tactic(auto)]
+
 ghost use Rattle.std.specs.Prelude.{◌≡◌, ◌≤◌, length, pos, ◌+ℤ◌, ◌-ℤ◌};
 ghost use Rattle.meaning.specs.Number as point;
 ghost use Rattle.meaning.specs.NumberIntervals.{intervals};
@@ -18,7 +20,7 @@ use slices::{le, put_one};
 use words::{MAX, MIN, SIGN};
 
 // The closest member, or the number of the refusal.
-#[derive(Drop)]
+#[derive(Clone, Copy)]
 pub enum Setpoint {
     Member(i64),
     Refused(u8),
@@ -26,8 +28,8 @@ pub enum Setpoint {
 
 // 2 where the set has over 16 intervals, else 1 where it is not normal, else 10 where it is empty, else 0.
 fn refusal_of(s: &[i64]) -> u8
-    ensures fact_1 { result ≡ setpoint_refusal s.now }
-    ensures fact_2 { (result ≡ 0 → Argument s.now × (2 ≤ length s.now)) }
+    ensures refused { result ≡ setpoint_refusal s.now }
+    ensures argument { (result ≡ 0 → Argument s.now × (2 ≤ length s.now)) }
 {
     let k = refusal(s);
     if k != 0 {

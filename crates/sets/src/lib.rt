@@ -1,5 +1,7 @@
 // Sets as slices of ends: the start and the end of each interval, in order. A normal set is sorted, without overlap, and at least one number is missing
 // between neighbours. Only `is_normal` and `contains` take any slice.
+#![tactic(auto)]
+
 ghost use Rattle.std.specs.Prelude.{◌≡◌, true, ◌&&◌, ◌+◌, ◌*◌, ◌<◌, ◌≤◌, length, get_or, drop, pos};
 ghost use Rattle.std.specs.Int.Signed.{le_z};
 ghost use Rattle.meaning.specs.Number.{within, InRange};
@@ -13,10 +15,10 @@ use sorting::{apart, join_pass, merge_in, put_pair, sort_big, sort_part};
 // The interval at i has its start at most its end, and the next one, which is there, is apart from it.
 fn fine_at(s: &[i64], i: usize) -> bool
     requires { i + 2 < length s.now }
-    ensures fact_1 { result ≡ (le_z (get_or s.now i (pos 0)) (get_or s.now (i + 1) (pos 0))
+    ensures value { result ≡ (le_z (get_or s.now i (pos 0)) (get_or s.now (i + 1) (pos 0))
         && starts_after (get_or s.now (i + 1) (pos 0)) (drop (i + 2) s.now)) }
-    ensures fact_2 { InRange (get_or s.now i (pos 0)) }
-    ensures fact_3 { InRange (get_or s.now (i + 1) (pos 0)) }
+    ensures start_in_range { InRange (get_or s.now i (pos 0)) }
+    ensures end_in_range { InRange (get_or s.now (i + 1) (pos 0)) }
 {
     let a = s[i];
     let b = s[i + 1];
@@ -26,8 +28,8 @@ fn fine_at(s: &[i64], i: usize) -> bool
 
 // Sorted, no overlap, at least one number missing between neighbours; an odd length is not normal.
 pub fn is_normal(s: &[i64]) -> bool
-    ensures fact_1 { result ≡ normal s.now }
-    ensures fact_2 { (result ≡ true → Normal (intervals s.now)) }
+    ensures value { result ≡ normal s.now }
+    ensures normal { (result ≡ true → Normal (intervals s.now)) }
 {
     let n = s.len();
     let mut i = 0;

@@ -1,5 +1,7 @@
 // A whole text of a sheet (01, "Sheet"): where its lines end, the line finder, and which refusal the text meets.
 // A line is what an LF (byte 10) ends. What stands behind the last LF is no line.
+#![tactic(auto)]
+
 ghost use Rattle.std.specs.Prelude.{◌≡◌, [], ◌+◌, ◌<◌, length, drop};
 ghost use Rattle.meaning.specs.Sheet.{registers};
 ghost use Rattle.meaning.specs.Text.{line_at, cut, split_lines, lines, shaped as shaped_text, nothing_seen, read_lines};
@@ -14,14 +16,14 @@ use refusals::{MISPLACED, MISSHAPEN};
 
 // Where a line starts in its text, and its length in bytes.
 #[repr(C)]
-#[derive(Drop)]
+#[derive(Clone, Copy)]
 pub struct Part {
     pub start: usize,
     pub len: usize,
 }
 
 // Fine with its count of lines, or refused with a number and a line.
-#[derive(Drop)]
+#[derive(Clone, Copy)]
 pub enum Judgement {
     Fine(usize),
     Refused(u8, usize),

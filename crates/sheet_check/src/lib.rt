@@ -1,4 +1,6 @@
 // The check of a sheet (01, "Sheet"): one set a register, worked line by line. It works on an array of its own; the lent sets are written on a pass only.
+#![tactic(auto)]
+
 ghost use Rattle.std.specs.Prelude.{◌≡◌, ◌≤◌, length};
 ghost use Rattle.meaning.specs.Check.{layout, start_sets, sets_need, work_need, interval_limit, check_text, sets_left_by, work_left_by};
 ghost use Rattle.sheet.specs.Judging.{IsSheet};
@@ -12,7 +14,7 @@ use sheet::{Judgement, judge_text, line_end};
 use slices::{copy_front, zero_first};
 
 // A pass with the count of lines, a finding or a refusal with its number and line. What stops a line is a finding, 20 or 21; what reading meets, and a short slice, refuses.
-#[derive(Drop)]
+#[derive(Clone, Copy)]
 pub enum Answer {
     Pass(usize),
     Finding(u8, usize),

@@ -9,7 +9,7 @@ pub const OLD_SETS: i64 = -3333333;
 
 // Lengths of the text, of the lent numbers, of the check's two slices, of the listing and of the page; how many numbers of the sets are stored; whether the
 // work is cleared; what reading, run, check and page answer; and a line number with the start and end of its bytes.
-#[derive(Drop)]
+#[derive(Clone, Copy)]
 pub struct Case {
     pub text: usize,
     pub lent: usize,

@@ -1,4 +1,6 @@
 // Replays stored sheets, and writes a line for each call: how many sheets, and whether all agree. The file data/README.md says how they were made.
+#![tactic(auto)]
+
 mod case;
 mod checks;
 mod parts;

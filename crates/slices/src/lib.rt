@@ -1,5 +1,7 @@
 // What is done with lent slices of i64. A slice of ends holds the intervals one after the other, start before end; a call that writes leaves what follows
 // its numbers as it was lent.
+#![tactic(auto)]
+
 ghost use Rattle.std.specs.Prelude.{◌≡◌, ◌++◌, ◌<◌, ◌≤◌, length, take, replicate, pos};
 ghost use Rattle.std.specs.Int.Signed.{le_z};
 ghost use Rattle.meaning.specs.Lists.{over};

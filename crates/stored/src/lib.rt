@@ -1,5 +1,7 @@
 // What stored bytes say: lengths, numbers, and what a call is to answer; and whether an answer is that one. A stored number has eight bytes, the least first,
 // in two's complement.
+#![tactic(auto)]
+
 ghost use Rattle.std.specs.Prelude.{◌≡◌, true, ◌&&◌, ◌+◌, ◌*◌, ◌<◌, eqb, pos};
 ghost use Rattle.meaning.specs.Number.{wrap};
 ghost use Rattle.stored.specs.Expected.{Expected, ExpectedMember};
@@ -40,7 +42,7 @@ pub fn number_in(b: &[u8; 8]) -> i64
 }
 
 // What a call on a sheet is to answer: 0 a success, 1 a finding or a stop, 2 a refusal; its number; its line, or the line count of a success.
-#[derive(Drop)]
+#[derive(Clone, Copy)]
 pub struct Verdict {
     pub kind: u8,
     pub number: u8,

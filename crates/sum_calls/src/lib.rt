@@ -1,5 +1,7 @@
 // The set calls whose answer holds just the point results and keeps the left set's flag: neg, abs, add and sub. A set is the ends of its intervals in a slice, its flag beside it;
 // `number_intervals` says which slices are sets. Special is MIN, which is its own negative and magnitude, and a sum past the end of the range, which goes on at the other end.
+#![tactic(auto)]
+
 ghost use Rattle.meaning.specs.Number as point;
 ghost use Rattle.meaning.specs.Promises.{Works1, Works2};
 ghost use Rattle.replies.specs.Returning.{returned, Cased};

@@ -1,4 +1,6 @@
 // Numbers as truth values, and their comparisons: a number that is not 0 is true, and a result is ONE or 0. Each call is equal to its definition in `meaning`, specs/Number.antt.
+#![tactic(auto)]
+
 ghost use Rattle.std.specs.Prelude.{◌≡◌, not, ◌&&◌, ◌||◌};
 ghost use Rattle.std.specs.Int.Signed.{le_z, lt_z};
 ghost use Rattle.meaning.specs.Number as point;

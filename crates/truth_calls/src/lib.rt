@@ -1,5 +1,7 @@
 // The set calls whose answer is made of 0 and 1000: not, and, or and the comparisons. A set is the ends of its intervals in a slice; `number_intervals` says which slices are sets.
 // The flag of an answer is false. Special are empty sets: `and`, `or` and `int_ne` of one may hold more than the point results, of which there are none.
+#![tactic(auto)]
+
 ghost use Rattle.meaning.specs.Number as point;
 ghost use Rattle.meaning.specs.Promises.{Gives1, Gives2};
 ghost use Rattle.replies.specs.Returning.{returned, Cased};

@@ -7,7 +7,7 @@ const OLD_OUT: i64 = -8888888;
 
 // What a case says but for its numbers: the lengths of both sets and the left flag; the refusal, count and flag expected; how long work and out are lent,
 // and how many numbers of the work are 0 afterwards.
-#[derive(Drop)]
+#[derive(Clone, Copy)]
 pub struct Case {
     pub left: usize,
     pub right: usize,

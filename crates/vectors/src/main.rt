@@ -1,5 +1,7 @@
 // Replays stored answers of the original Rust, and of a second reading where it has none, and writes a line for each operation: how many cases, and whether all
 // agree. The cases are files of data/, whose README says how they were made.
+#![tactic(auto)]
+
 mod case;
 mod closest;
 mod points;

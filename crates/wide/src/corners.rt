@@ -9,7 +9,7 @@ use crate::exact::exact;
 use crate::product::Wide;
 
 // Two exact numbers.
-#[derive(Drop)]
+#[derive(Clone, Copy)]
 pub struct Ends {
     pub least: Wide,
     pub greatest: Wide,

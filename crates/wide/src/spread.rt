@@ -9,7 +9,7 @@ use crate::word::unword;
 use words::SIGN;
 
 // One or two intervals of i64: [MIN,MAX]; [u,v]; [u,MAX] and [MIN,v].
-#[derive(Drop)]
+#[derive(Clone, Copy)]
 pub enum Range {
     Whole,
     One(i64, i64),

@@ -1,5 +1,7 @@
 // The lines of a listing (01, "Whole listing"): words, numbers and intervals, in bytes. Each function writes its part at the front of the bytes that it is
 // lent, and returns how many they are.
+#![tactic(auto)]
+
 ghost use Rattle.std.specs.Prelude.{◌++◌, ◌≤◌, length};
 ghost use Rattle.meaning.specs.NumberIntervals.{intervals};
 ghost use Rattle.meaning.specs.Listing.{decimal, decimal_z, trouble_line, pass_line, interval_texts, register_line};

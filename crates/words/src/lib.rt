@@ -1,5 +1,7 @@
 // A word is 64 bits, as a u64; a number is an i64, from MIN to MAX, and its bits are a word. Sums and products of words wrap at 2^64, and so do those of numbers.
 // Quotients go toward 0. Special is MIN: its negative and its quotient by -1 wrap to MIN.
+#![tactic(auto)]
+
 ghost use Rattle.std.specs.Prelude.{◌≡◌, ◌*◌, ◌%◌, ◌^◌, ◌≢◌, pos, ◌-ℤ◌, ◌*ℤ◌, ◌≤ℤ◌, int_div};
 ghost use Rattle.meaning.specs.Number as point;
 ghost use Rattle.laws.proofs.Wrapping.{low};
