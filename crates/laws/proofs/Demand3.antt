@@ -15,7 +15,7 @@ use Rattle.meaning.specs.Lists.{All}
 use Rattle.meaning.specs.Refusals.{zero_divisor, hold_broken, outside_in}
 use Rattle.meaning.specs.Outcome.{Res, ok, stop, bind, or_stop, done, work, next_line}
 use Rattle.meaning.specs.Number.{MIN, MAX, InRange, Op2, point1, point2}
-use Rattle.meaning.specs.Interval.{span, only}
+use Rattle.meaning.specs.Interval.{span}
 use Rattle.meaning.specs.NumberIntervals.{Set, ◌∈◌, here, Normal, set1, set2, flag1, flag2}
 use Rattle.meaning.specs.Sheet.{registers, Form, lit, reg, form1, form2, Act, put, hold, Line, input, act, FineForm, FineAct, FineLine}
 use Rattle.meaning.specs.Text.{sheet, read}

@@ -1,20 +1,19 @@
 -- The members within a distance: each interval cut to a window, which keeps them apart. Assumes nothing.
 use lib.IntN.{ℤ, pos, ◌+ℤ◌, ◌-ℤ◌}
-use lib.ListN.{length, length-append}
+use lib.ListN.{length}
 use lib.Signed.{le_z, ◌≤ℤ◌, ≤ℤ_refl}
 use mathlib.Core.Path.{◌≡◌, refl, subst}
-use mathlib.Core.Logic.{inl, inr}
-use mathlib.Core.List.{List, [], ◌∷◌, ◌++◌}
+use mathlib.Core.List.{[], ◌∷◌, ◌++◌}
 use Prim.Native.Nat.{ℕ, ◌≤◌, ◌<◌}
 use native.Mathlib.Omega.{arith}
 use lib.Dec.{ltb}
 use borrow.Author.Tests.{ltb-true, ltb-false}
 use Rattle.meaning.specs.Number.{MIN, MAX, Between, InRange, smaller, larger, distance}
 use Rattle.meaning.specs.Interval.{Interval, span, Proper, each, meet_pair, cut_to}
-use Rattle.meaning.specs.NumberIntervals.{Set, ◌∈◌, here, there, Apart, Normal, intersect}
+use Rattle.meaning.specs.NumberIntervals.{Set, ◌∈◌, here, Apart, Normal, intersect}
 use Rattle.meaning.specs.Setpoints.{nearest, near}
 use Rattle.laws.proofs.Integers.{zarith, by_test, cond_case, add_parts, sub_parts, smaller_le, larger_ge, smaller_case, larger_case, suc_parts, ≤ℤ_trans}
-use Rattle.laws.proofs.Members.{between, not_in_none, in_span, in_left, in_right, in_either, member_range, normal_proper}
+use Rattle.laws.proofs.Members.{between, not_in_none, in_span, member_range, normal_proper}
 use Rattle.laws.proofs.Join.{normal_unique}
 use Rattle.laws.proofs.Compare.{cut_holds, cut_only, intersect_holds, intersect_only, intersect_normal}
 use Rattle.laws.proofs.Distances.{near_between, between_near}

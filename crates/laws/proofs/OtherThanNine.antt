@@ -15,10 +15,9 @@ use Rattle.meaning.specs.Outcome.{Res, ok, stop, bind, Outcome, done, stopped, o
 use Rattle.meaning.specs.NumberIntervals.{Set, set1, set2, flag1, flag2}
 use Rattle.meaning.specs.Sheet.{Form, lit, reg, form1, form2, put, hold, Line, input, act}
 use Rattle.meaning.specs.Text.{Read, sheet, no_sheet, read}
-use Rattle.meaning.specs.Run.{Judged, refused, worked, judge, verdict}
-use Rattle.meaning.specs.Close.{close}
+use Rattle.meaning.specs.Run.{refused, worked, judge, verdict}
 use Rattle.meaning.specs.Check.{Bands, Settling, settle, set_by, set_of, act_by, line_by, check_line, start_sets, check_by, check, text_by, check_text, sets_need, work_need, interval_limit, call_by, check_call, sets_left_by, check_sets, work_left_by, check_work}
-use Rattle.meaning.specs.OtherThanNine.{settle_with_nine, check_with_nine, text_with_nine, call_with_nine, word_with_nine, outcome_with_nine, listing_with_nine, by_check_with_nine, part_with_nine, NineAt, TextNine, NotNine, OtherThanNine}
+use Rattle.meaning.specs.OtherThanNine.{settle_with_nine, check_with_nine, text_with_nine, call_with_nine, outcome_with_nine, listing_with_nine, by_check_with_nine, part_with_nine, NineAt, TextNine, NotNine, OtherThanNine}
 use Rattle.meaning.specs.Composing.{Composed, by_check, by_read, if_passed}
 use Rattle.meaning.specs.Listing.{outcome_text, read_text, listing}
 use Rattle.meaning.specs.Verdicts.{Among, reading_refuses, check_finds}

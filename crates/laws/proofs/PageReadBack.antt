@@ -1,7 +1,7 @@
 -- The page reads back: its lines are those of its rows, each reads as its row, and the rows of a register are its set. Assumes nothing.
-use lib.Dec.{eqb, leb}
+use lib.Dec.{eqb}
 use lib.IntN.{ℤ, pos, ◌-ℤ◌}
-use lib.ListN.{length, get_or, length-append}
+use lib.ListN.{length, length-append}
 use mathlib.Core.Path.{◌≡◌, refl, sym, ap, ◌∙◌, subst}
 use mathlib.Core.Bool.{Bool, true, false, cond}
 use mathlib.Core.Logic.{◌⊎◌, inl, inr}
@@ -11,7 +11,6 @@ use native.Mathlib.Omega.{arith}
 use borrow.Author.Tests.{eqb-true, eqb-false, ne_eqb}
 use Rattle.meaning.specs.Lists.{All}
 use Rattle.meaning.specs.Bytes.{LF}
-use Rattle.meaning.specs.Refusals.{zero_divisor}
 use Rattle.meaning.specs.Outcome.{Outcome, done, stopped}
 use Rattle.meaning.specs.Interval.{Interval, Proper, only}
 use Rattle.meaning.specs.NumberIntervals.{Set, ◌∈◌, Normal}

@@ -15,7 +15,7 @@ use Rattle.meaning.specs.Lists.{over}
 use Rattle.meaning.specs.Outcome.{Res, ok, stop, Outcome, done, stopped, onward, work, next_line}
 use Rattle.meaning.specs.Sheet.{registers, hold, Line, act}
 use Rattle.meaning.specs.Text.{split_lines, sheet, read_lines, read}
-use Rattle.meaning.specs.Run.{run_line, start_numbers, run, state_after, Judged, refused, worked, judge, left_by, run_text, run_call, run_lent}
+use Rattle.meaning.specs.Run.{run_line, start_numbers, run, state_after, refused, worked, judge, left_by, run_text, run_call, run_lent}
 use Rattle.meaning.specs.CheckSets.{state_of}
 use Rattle.meaning.specs.PlainRun.{StopsAt, PlainRun}
 use Rattle.laws.proofs.Integers.{by_test}

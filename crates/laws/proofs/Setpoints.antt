@@ -12,7 +12,7 @@ use Rattle.meaning.specs.Lists.{All}
 use Rattle.meaning.specs.Refusals.{no_room, empty_set}
 use Rattle.meaning.specs.Number.{InRange, distance}
 use Rattle.meaning.specs.NumberIntervals.{Set, ◌∈◌, Normal, filled, flat, intervals}
-use Rattle.meaning.specs.SetCalls.{Returned, refusal, call_returns, call_out}
+use Rattle.meaning.specs.SetCalls.{Returned, refusal}
 use Rattle.meaning.specs.Rooms.{NeverShort}
 use Rattle.meaning.specs.Setpoints.{nearest, near, setpoint_refusal, ReturnedMember, given, withheld, nearest_returns, within_returns, within_out}
 use Rattle.meaning.specs.Closest.{ClosestIn, Setpoints, RightNearest, RightWithin, SetpointCalls}

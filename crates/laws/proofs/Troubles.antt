@@ -22,7 +22,7 @@ use Rattle.meaning.specs.Run.{Verdict, Judged, refused, worked, judge, verdict, 
 use Rattle.meaning.specs.Close.{close}
 use Rattle.meaning.specs.Check.{Bands, at, inside, settle, set_of, check_act, check_line, start_sets, sets_need, work_need, interval_limit, check, check_text, check_call, set_by, act_by, line_by, text_by, check_by, call_by}
 use Rattle.meaning.specs.Composing.{Composed, text, text_returns, by_check, by_read, if_passed}
-use Rattle.meaning.specs.Listing.{digits_before, decimal, trouble_line, pass_line, register_lines, outcome_text, read_text, listing, listing_part}
+use Rattle.meaning.specs.Listing.{digits_before, decimal, trouble_line, pass_line, outcome_text, read_text, listing}
 use Rattle.meaning.specs.Page.{page_text, page}
 use Rattle.meaning.specs.Verdicts.{Among, reading_refuses, check_finds, run_stops, Says, passes, stops, refuses, Verdicts}
 use Rattle.laws.proofs.Integers.{never, clash, by_test, cond_case}

@@ -1,7 +1,6 @@
 // The sizes that document 01 fixes, one name each.
 #![tactic(auto)]
 
-
 // Registers of a sheet.
 pub const REGISTERS: usize = 16;
 

@@ -1,7 +1,6 @@
 // The numbers of document 01's table of refusals, and of its findings, under the names of meaning/specs/Refusals.
 #![tactic(auto)]
 
-
 // A set: odd length or not normal.
 pub const NOT_NORMAL: u8 = 1;
 

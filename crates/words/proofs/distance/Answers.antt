@@ -1,6 +1,6 @@
 -- The distance is below 2^64, and the difference of the bits is equal to it modulo 2^64.
 -- Assumes nothing.
-use Rattle.std.proofs.Common.{ℕ, ◌+◌, ◌%◌, ◌^◌, sym, ap, ◌∙◌, to_z-of_z, rules}
+use Rattle.std.proofs.Common.{ℕ, ◌+◌, ◌%◌, ◌^◌, sym, ap, ◌∙◌, to_z-of_z}
 use Rattle.laws.proofs.Wrapping.{low, dist_is}
 use Rattle.words.proofs.distance.Goals as goal
 

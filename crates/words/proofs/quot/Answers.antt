@@ -1,6 +1,6 @@
 -- By −1 it is the negative, where MIN wraps; by any other divisor the quotient is in range.
 -- Assumes nothing.
-use Rattle.std.proofs.Common.{negsuc, sym, ap, ◌∙◌, to_z-of_z, w64, SFits, rules}
+use Rattle.std.proofs.Common.{negsuc, sym, ap, ◌∙◌, to_z-of_z, w64, SFits}
 use Rattle.meaning.specs.Number.{negative}
 use Rattle.laws.proofs.Machine.{lit, ok, same, other, quot_ok, quot_is, quot_fits}
 use Rattle.laws.proofs.Wrapping.{wrap_id}

@@ -1,6 +1,6 @@
 -- The product of the bits modulo 2^64 has the bits of the wrapped product.
 -- Assumes nothing.
-use Rattle.std.proofs.Common.{ℕ, ◌*◌, ◌%◌, ◌^◌, pos, ap, ◌∙◌, to_z-of_z, rules}
+use Rattle.std.proofs.Common.{ℕ, ◌*◌, ◌%◌, ◌^◌, pos, ap, ◌∙◌, to_z-of_z}
 use Rattle.meaning.specs.Number.{wrap}
 use Rattle.laws.proofs.Machine.{ok}
 use Rattle.laws.proofs.Wrapping.{low, wrap_mul}

@@ -1,6 +1,6 @@
 -- The product is the sum of the four products of halves at their columns, and the columns from 2^64 up fall out.
 -- Assumes nothing.
-use Rattle.std.proofs.Common.{ℕ, ◌+◌, ◌*◌, ◌/◌, ◌%◌, ◌^◌, sym, ap, ◌∙◌, arith, rules}
+use Rattle.std.proofs.Common.{ℕ, ◌+◌, ◌*◌, ◌/◌, ◌%◌, ◌^◌, sym, ap, ◌∙◌, arith}
 use Rattle.words.proofs.Halves.{Halves, halves, whole_product, low_columns}
 use Rattle.words.proofs.wrapping_mul_u64.Goals as goal
 
