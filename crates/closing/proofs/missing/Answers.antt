@@ -10,11 +10,10 @@ use mir.Facts.{to_z-of_z}
 use Rattle.laws.proofs.Integers.{zarith, suc_parts, sub_parts}
 use Rattle.meaning.specs.Number.{distance}
 use Rattle.meaning.specs.Close.{missing}
-use Rattle.closing.proofs.missing.Statement.{statement}
-use Rattle.closing.proofs.missing.Tie as tie
+use Rattle.closing.proofs.missing.Goals as goal
 
-distance-requires : tie.Need-distance-requires
-distance-requires c κs = rw (to_z-of_z c.ranges.e, to_z-of_z c.ranges.s) (omega (zarith, c.requires, suc_parts c.args.e))
+pub distance-requires : goal.distance-requires
+distance-requires c = rw (to_z-of_z c.ranges.e, to_z-of_z c.ranges.s) (omega (zarith, c.requires, suc_parts c.args.e))
 
 -- the distance, of the numbers themselves
 is : (s e : ℤ) (r : ℕ) → SFits w64 s → SFits w64 e → pos r ≡ to_z w64 (of_z w64 s) -ℤ to_z w64 (of_z w64 e) → pos r ≡ s -ℤ e
@@ -23,18 +22,13 @@ is s e r f g h = h ∙ λ i. to_z-of_z f i -ℤ to_z-of_z g i
 some : (e s : ℤ) (r : ℕ) → suc_ℤ e <ℤ s → pos r ≡ s -ℤ e → 1 ≤ r
 some e s r h d = omega (zarith, suc_parts e, sub_parts s e)
 
-sub-result : tie.Need-overflow-sub-result
-sub-result c =
-    let a = c.before in
-    some a.args.e a.args.s c.distance.result a.requires (is a.args.s a.args.e c.distance.result a.ranges.s a.ranges.e c.distance.ensures)
+pub overflow_sub-result : goal.overflow_sub-result
+overflow_sub-result c =
+    some c.args.e c.args.s c.distance.result c.requires (is c.args.s c.args.e c.distance.result c.ranges.s c.ranges.e c.distance.ensures)
 
-returns : tie.Need-returns
+pub returns : goal.returns
 unfolding missing distance
 returns c =
-    let a = c.before in
-    let d = is a.args.s a.args.e c.distance.result a.ranges.s a.ranges.e c.distance.ensures in
-    let k = some a.args.e a.args.s c.distance.result a.requires d in
-    (ap (λ (z : ℤ). nat_abs z - 1) d, omega (arith, c.distance.type-inv, k))
-
-pub missing-spec : {M : Type 1} → statement M
-missing-spec = tie.close (tie.spec distance-requires sub-result returns)
+    let d = is c.args.s c.args.e c.distance.result c.ranges.s c.ranges.e c.distance.ensures in
+    let k = some c.args.e c.args.s c.distance.result c.requires d in
+    (ap (λ (z : ℤ). nat_abs z - 1) d, omega (arith, c.distance.type_inv, k))
