@@ -1,0 +1,16 @@
+-- A left start below a right end is a right end past a left start, and a left end at or past a right start the other way round.
+use mathlib.Core.Path.{sym, ap, ◌∙◌}
+use lib.Signed.{le_z, lt_z}
+use Rattle.meaning.specs.Bools.{BoolInterval}
+use Rattle.meaning.specs.NumberIntervals.{intervals, le_bools, lt_bools}
+use Rattle.bools.proofs.Some.{some_swap}
+use Rattle.bools.proofs.lt.Goals as goal
+
+pub returns : goal.returns
+unfolding le_bools lt_bools
+returns c =
+    let l = intervals c.args.left.now in
+    let r = intervals c.args.right.now in
+    let no = ap (λ (b : BoolInterval). b.btrue) c.le-b.ensures ∙ sym (some_swap (λ s e t f. le_z t e) l r) in
+    let yes = ap (λ (b : BoolInterval). b.bfalse) c.le-b.ensures ∙ sym (some_swap (λ s e t f. lt_z s f) l r) in
+    λ i. record { bfalse = no i; btrue = yes i }
