@@ -77,6 +77,7 @@ const REM: u32 = (b'r' as u32) + 256 * (b'e' as u32) + 65536 * (b'm' as u32);
 const AND: u32 = (b'a' as u32) + 256 * (b'n' as u32) + 65536 * (b'd' as u32);
 
 // The words of two letters.
+#[tactic(auto, unfolding(crate::specs::Packed::short))]
 fn short_word(w: u32) -> Head
     ensures { head_of result ≡ short w }
 {
@@ -90,6 +91,7 @@ fn short_word(w: u32) -> Head
 }
 
 // The words of three letters.
+#[tactic(auto, unfolding(crate::specs::Packed::long))]
 fn long_word(w: u32) -> Head
     ensures { head_of result ≡ long w }
 {
@@ -162,7 +164,7 @@ fn closed(text: &[u8], i: usize, far: bool) -> Took
 }
 
 // An argument, with `depth` brackets left: a form if it opens a bracket, else a literal.
-#[cycle(arg_form)]
+#[cycle(reading)]
 pub fn arg(text: &[u8], depth: usize) -> Took
     ensures { got_of result ≡ arg_at sizes depth text.now }
 {
@@ -181,7 +183,7 @@ pub fn arg(text: &[u8], depth: usize) -> Took
 }
 
 // A form, with `depth` brackets left inside its own. The second argument's text starts in the middle of the form's.
-#[cycle(arg_form)]
+#[cycle(reading)]
 fn form(text: &[u8], depth: usize) -> Took
     ensures { got_of result ≡ form_at sizes depth text.now }
 {

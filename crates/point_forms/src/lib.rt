@@ -105,7 +105,7 @@ fn closed(text: &[u8], i: usize, v: Num) -> Value
 }
 
 // The value of an argument, with `depth` brackets left.
-#[cycle(eval_arg_eval_form)]
+#[cycle(evaluating)]
 fn eval_arg(text: &[u8], depth: usize, state: &[i64; REGISTERS]) -> Value
     ensures { value_got result ≡ arg_at (points state.now) depth text.now }
 {
@@ -124,7 +124,7 @@ fn eval_arg(text: &[u8], depth: usize, state: &[i64; REGISTERS]) -> Value
 }
 
 // The value of a form, with `depth` brackets left inside its own.
-#[cycle(eval_arg_eval_form)]
+#[cycle(evaluating)]
 fn eval_form(text: &[u8], depth: usize, state: &[i64; REGISTERS]) -> Value
     ensures { value_got result ≡ form_at (points state.now) depth text.now }
 {

@@ -21,10 +21,10 @@ use borrow.Fn.Kinds.{In}
 use borrow.Fn.PlainCycle.{Measures, is, falls, and}
 use Rattle.point_forms.proofs.eval_arg.Reads as eval-arg
 use Rattle.point_forms.proofs.eval_arg.Kinds as eval-arg-kinds
-use Rattle.point_forms.proofs.+eval_arg_eval_form.Lts-eval_arg as eval-arg-lts
+use Rattle.point_forms.proofs.+evaluating.Lts-eval_arg as eval-arg-lts
 use Rattle.point_forms.proofs.eval_form.Reads as eval-form
 use Rattle.point_forms.proofs.eval_form.Kinds as eval-form-kinds
-use Rattle.point_forms.proofs.+eval_arg_eval_form.Lts-eval_form as eval-form-lts
+use Rattle.point_forms.proofs.+evaluating.Lts-eval_form as eval-form-lts
 use Rattle.literals.proofs.at.Reads as at_reads
 use Rattle.forms.proofs.read_head.Reads as read-head-reads
 use Rattle.literals.proofs.read_literal.Reads as read-literal-reads
@@ -34,8 +34,8 @@ use Rattle.literals.proofs.tail.Reads as tail-reads
 use Rattle.point_forms.proofs.closed.Reads as closed-reads
 use Rattle.point_forms.proofs.one.Reads as one-reads
 use Rattle.point_forms.proofs.two.Reads as two-reads
-use Rattle.point_forms.proofs.+eval_arg_eval_form.{statement}
-use Rattle.point_forms.proofs.+eval_arg_eval_form.Tie.{close}
+use Rattle.point_forms.proofs.+evaluating.{statement}
+use Rattle.point_forms.proofs.+evaluating.Tie.{close}
 
 abbrev μ-eval-arg : Measures 2 eval-arg-kinds.ps ℕ
 μ-eval-arg κs a = a.1.0 + a.1.0
@@ -394,8 +394,8 @@ eval-form-returns-9 t c =
     sym (form_none (points s.args.state.now) s.args.text.now s.args.depth c.before.before.before.start.ensures
     c.before.before.read_head.ensures (ap head_of c.enum-told6.given.1))
 
-pub +eval-arg-eval-form-spec : {M : Type 1} → statement M
-+eval-arg-eval-form-spec = close μ-eval-arg μ-eval-form (λ t. eval-arg-lts.spec (eval-arg-in t) (eval-arg-at t) eval-arg.Post
+pub +evaluating-spec : {M : Type 1} → statement M
++evaluating-spec = close μ-eval-arg μ-eval-form (λ t. eval-arg-lts.spec (eval-arg-in t) (eval-arg-at t) eval-arg.Post
     (eval-arg-at-requires t)
     (eval-arg-sub-eval-form t)
     (eval-arg-eval-form-requires t)
