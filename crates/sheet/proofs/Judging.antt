@@ -1,5 +1,5 @@
 -- Reading the lines in order, with the registers of the `in` lines in an array. Assumes nothing.
-use mathlib.Core.Path.{◌≡◌, refl, sym, ap, subst, ◌∙◌}
+use mathlib.Core.Path.{◌≡◌, refl, sym, ap, ◌∙◌}
 use mathlib.Core.Bool.{Bool, true, false, ◌||◌}
 use mathlib.Core.List.{List, [], ◌∷◌}
 use Prim.Native.Nat.{ℕ, zero, suc, ◌+◌, ◌-◌, ◌≤◌, ◌<◌}
@@ -7,7 +7,6 @@ use native.Mathlib.Omega.{arith}
 use native.Mathlib.Nat.{add-zero, zero-add}
 use native.Mathlib.Numerals.{add-one}
 use lib.Dec.{eqb}
-use lib.IntN.{ℤ}
 use lib.ListN.{length, get_or, set, take, drop, replicate, length-set, length-replicate, drop_of_length-le}
 use lib.Seq.{get_or-set_same, get_or-set_other}
 use borrow.Author.Tests.{eqb-true, eqb-false}
@@ -219,40 +218,6 @@ module _ (s : List ℕ) {x : Bool} (ex : x ≡ shaped (split_lines s)) where
 pub judged_so : {r : Judgement} (x : Read) → r ≡ judgement_for x → judgement_of r ≡ read_verdict x
 judged_so (sheet ls) e = ap judgement_of e
 judged_so (no_sheet k n) e = ap judgement_of e
-
--- ---- which case of `admission` and `taken_with` holds
-
-pub in_register_lem : {l : LineForm} {r : ℕ} {lo hi : ℤ} → l ≡ line.In r lo hi → in_register l < registers → r < registers
-in_register_lem e h = subst (λ (x : LineForm). in_register x < registers) e h
-
-module _ (l : LineForm) (other : Bool) (taken : List Bool) where
-  abbrev Admits : ℕ → List Bool → Type 0
-  Admits k t = (k ≡ admission other taken l) × (t ≡ taken_with other taken l)
-
-  module _ {r : ℕ} {lo hi : ℤ} (e : l ≡ line.In r lo hi) where
-    pub in_late : other ≡ true → Admits 8 taken
-    unfolding admission taken_with
-    in_late t = (rw (e, t), rw (e, t))
-
-    pub in_again : other ≡ false → get_or taken r false ≡ true → Admits 8 taken
-    unfolding admission taken_with
-    in_again t d = (rw (e, t, d), rw (e, t, d))
-
-    pub in_first : other ≡ false → get_or taken r false ≡ false → Admits 0 (set taken r true)
-    unfolding admission taken_with
-    in_first t d = (rw (e, t, d), rw (e, t, d))
-
-  pub put_admits : {r j : ℕ} → l ≡ line.Put r j → Admits 0 taken
-  unfolding admission taken_with
-  put_admits e = (rw e, rw e)
-
-  pub hold_admits : {r : ℕ} {lo hi : ℤ} → l ≡ line.Hold r lo hi → Admits 0 taken
-  unfolding admission taken_with
-  hold_admits e = (rw e, rw e)
-
-  pub refused_admits : {k : ℕ} → l ≡ line.Refused k → Admits k taken
-  unfolding admission taken_with
-  refused_admits e = (rw e, rw e)
 
 -- ---- what a judgement says of the text
 

@@ -113,6 +113,7 @@ fn shaped(text: &[u8]) -> bool
 }
 
 // The line's refusal, 8 where an `in` may not stand; 0 if there is none, and then the register of an `in` is taken.
+#[tactic(auto, unfolding(crate::specs::Judging::admission, crate::specs::Judging::taken_with))]
 fn admit(other: bool, taken: &mut [bool; REGISTERS], l: LineForm) -> u8
     requires { in_register l < registers }
     ensures value { result ≡ admission other taken.old l }
