@@ -1,4 +1,4 @@
-/* Juwenfo for C: the functions of libexports.a (`rt staticlib exports`; the Rattle side is crates/exports).
+/* Juwenfo for C: the functions of libexports.a, which `rt lib` makes in crates/exports, the Rattle side.
  *
  * Numbers are counts of thousandths, from MIN (INT64_MIN) to MAX (INT64_MAX). A slice is a pointer and the length that follows it; a length counts
  * elements. A set of numbers is the ends of its intervals in a slice, start and end in turn, in order; it is normal if every start is at most its end

@@ -2,8 +2,8 @@
 
 A shared object is made from the archive, once:
 
-    rt staticlib exports
-    cc -shared -I include -o libjuwenfo.so bindings/python/version.c -Wl,--whole-archive target/staticlib/libexports.a -Wl,--no-whole-archive
+    (cd crates/exports && rt lib)
+    cc -shared -I include -o libjuwenfo.so bindings/python/version.c -Wl,--whole-archive crates/exports/out/libexports.a -Wl,--no-whole-archive
 
 It is looked for at the path in JUWENFO_LIBRARY, else beside this file.
 
