@@ -12,6 +12,10 @@ use Rattle.meaning.specs.NumberIntervals.{flat}
 use Rattle.laws.proofs.Flat.{length_flat}
 use Rattle.laws.proofs.RemainderRules.{step_a, step_b, step_c, step_d, step_e, step_f}
 use Rattle.laws.proofs.RemainderCounts.{rem_few}
+use Rattle.laws.proofs.Machine.{rd}
+use Rattle.interval.proofs.Cuts.{pair_is}
+use mir.Syntax.{w64}
+use mir.Val.{SFits}
 
 -- ---- the number that falls
 
@@ -72,6 +76,46 @@ module _ {n : ℕ} {s e t f : ℤ} where
 
   pub with_f : PastD n s e t f → within s MIN e ≡ false → rule_f s e t f ≡ rem_with n s e t f
   with_f p x = let q = p.past.past.past in sym (step_f (rem_with (n - 1)) s e t f q.no_a p.past.no_c p.no_d x) ∙ with_step n s e t f q.more
+
+-- ---- the rules of the ends as the machine reads them back
+
+module _ {n : ℕ} {s e t f : ℤ} (S : SFits w64 s) (E : SFits w64 e) (T : SFits w64 t) (F : SFits w64 f) (more : n ≡ 0 → ⊥) where
+  read : rem_with n (rd s) (rd e) (rd t) (rd f) ≡ rem_with n s e t f
+  read = pair_is (rem_with n) S E T F
+
+  pub written_a : within (rd t) (pos 0) (rd f) ≡ true → rule_a (rem_with (n - 1)) (rd s) (rd e) (rd t) (rd f) ≡ rem_with n s e t f
+  written_a a = with_a _ _ _ _ _ more a ∙ read
+
+  module _ (no_a : within (rd t) (pos 0) (rd f) ≡ false) where
+    past_a : PastA n (rd s) (rd e) (rd t) (rd f)
+    past_a = record { more = more; no_a = no_a }
+
+    pub written_b : (within (rd s) MIN (rd e) && within (rd t) (negsuc 0) (rd f)) ≡ true → code_b (rem_with (n - 1)) (rd s) (rd e) (rd t) (rd f) ≡ rem_with n s e t f
+    written_b b = with_b past_a b ∙ read
+
+    module _ (no_b : (within (rd s) MIN (rd e) && within (rd t) (negsuc 0) (rd f)) ≡ false) where
+      past_b : PastB n (rd s) (rd e) (rd t) (rd f)
+      past_b = record { past = past_a; no_b = no_b }
+
+      pub written_c : within (rd s) (pos 0) (rd e) ≡ true → rule_c (rem_with (n - 1)) (rd s) (rd e) (rd t) (rd f) ≡ rem_with n s e t f
+      written_c c = with_c past_b c ∙ read
+
+      module _ (no_c : within (rd s) (pos 0) (rd e) ≡ false) where
+        past_c : PastC n (rd s) (rd e) (rd t) (rd f)
+        past_c = record { past = past_b; no_c = no_c }
+
+        pub written_d : within (rd t) MIN (rd f) ≡ true → rule_d (rem_with (n - 1)) (rd s) (rd e) (rd t) (rd f) ≡ rem_with n s e t f
+        written_d d = with_d past_c d ∙ read
+
+        module _ (no_d : within (rd t) MIN (rd f) ≡ false) where
+          past_d : PastD n (rd s) (rd e) (rd t) (rd f)
+          past_d = record { past = past_c; no_d = no_d }
+
+          pub written_e : within (rd s) MIN (rd e) ≡ true → rule_e (rem_with (n - 1)) (rd s) (rd e) (rd t) (rd f) ≡ rem_with n s e t f
+          written_e x = with_e past_d x ∙ read
+
+          pub written_f : within (rd s) MIN (rd e) ≡ false → rule_f (rd s) (rd e) (rd t) (rd f) ≡ rem_with n s e t f
+          written_f x = with_f past_d x ∙ read
 
 -- ---- room
 

@@ -14,7 +14,7 @@ use rem_rules::{put_against, put_remainders, put_under};
 use slices::put_one;
 
 // L by R where `there` says that both are, else nothing.
-#[cycle(cut_left_cut_right_rem_if_rem_with)]
+#[cycle(cutting)]
 fn rem_if(out: &mut [i64], n: usize, there: bool, s: i64, e: i64, t: i64, f: i64) -> usize
     requires { ((there ≡ true → t ≤ℤ f)) × (length (flat (cond there (rem_with n s e t f) [])) ≤ length out.old) }
     ensures { Wrote result (cond there (rem_with n s e t f) []) out.new out.old }
@@ -27,7 +27,7 @@ fn rem_if(out: &mut [i64], n: usize, there: bool, s: i64, e: i64, t: i64, f: i64
 }
 
 // L without c by R.
-#[cycle(cut_left_cut_right_rem_if_rem_with)]
+#[cycle(cutting)]
 fn cut_left(out: &mut [i64], n: usize, c: i64, s: i64, e: i64, t: i64, f: i64) -> usize
     requires { (t ≤ℤ f) × ((within s c e ≡ true) × (length (flat (cut_left (rem_with n) c s e t f)) ≤ length out.old)) }
     ensures { Wrote result (cut_left (rem_with n) c s e t f) out.new out.old }
@@ -38,7 +38,7 @@ fn cut_left(out: &mut [i64], n: usize, c: i64, s: i64, e: i64, t: i64, f: i64) -
 }
 
 // L by R without c.
-#[cycle(cut_left_cut_right_rem_if_rem_with)]
+#[cycle(cutting)]
 fn cut_right(out: &mut [i64], n: usize, c: i64, s: i64, e: i64, t: i64, f: i64) -> usize
     requires { (within t c f ≡ true) × (length (flat (cut_right (rem_with n) c s e t f)) ≤ length out.old) }
     ensures { Wrote result (cut_right (rem_with n) c s e t f) out.new out.old }
@@ -49,7 +49,7 @@ fn cut_right(out: &mut [i64], n: usize, c: i64, s: i64, e: i64, t: i64, f: i64) 
 }
 
 // The first rule that fits; n falls at each self-call.
-#[cycle(cut_left_cut_right_rem_if_rem_with)]
+#[cycle(cutting)]
 fn rem_with(out: &mut [i64], n: usize, s: i64, e: i64, t: i64, f: i64) -> usize
     requires { (t ≤ℤ f) × (length (flat (rem_with n s e t f)) ≤ length out.old) }
     ensures { Wrote result (rem_with n s e t f) out.new out.old }

@@ -6,12 +6,27 @@ ghost use Rattle.std.specs.Prelude.{◌≡◌, true, false, cond, ◌≤◌, leb
 ghost use Rattle.meaning.specs.Lists.{over};
 ghost use Rattle.replay.specs.Tallied.{more as one_more, tallied};
 
-use libc::STDOUT_FILENO;
+use std::io::Read;
+
+// Reads until b is full, the file ends or a read fails, and returns how many bytes it put at the front of b; the others stay as they were.
+pub fn read_full<F: Read>(file: &mut F, b: &mut [u8]) -> usize
+    ensures { result ≤ length b.new }
+{
+    let mut at = 0;
+    while at < b.len() {
+        match file.read(&mut b[at..]) {
+            Ok(0) => return at,
+            Ok(n) => at += n,
+            Err(_) => return at,
+        }
+    }
+    at
+}
 
 // The next number of the file; bytes past its end read as 0.
-pub fn read_number(fd: i32) -> i64 {
+pub fn read_number<F: Read>(file: &mut F) -> i64 {
     let mut b = [0u8; 8];
-    io::read_full(fd, &mut b);
+    read_full(file, &mut b);
     stored::number_in(&b)
 }
 
@@ -23,33 +38,33 @@ pub fn numbers() -> [i64; 8256]
 }
 
 // As many numbers of the file as s has places.
-pub fn read_numbers(fd: i32, s: &mut [i64]) {
+pub fn read_numbers<F: Read>(file: &mut F, s: &mut [i64]) {
     let mut i = 0;
     while i < s.len() {
-        s[i] = read_number(fd);
+        s[i] = read_number(file);
         i += 1;
     }
 }
 
 // The next n numbers of the file, at the front of s; false if s is too short.
-pub fn read_front(fd: i32, s: &mut [i64], n: usize) -> bool
+pub fn read_front<F: Read>(file: &mut F, s: &mut [i64], n: usize) -> bool
     ensures { result ≡ leb n (length s.old) }
 {
     if n > s.len() {
         return false;
     }
-    read_numbers(fd, &mut s[..n]);
+    read_numbers(file, &mut s[..n]);
     true
 }
 
 // The next n bytes of the file, at the front of s; false if s or the file is too short.
-pub fn read_bytes(fd: i32, s: &mut [u8], n: usize) -> bool
+pub fn read_bytes<F: Read>(file: &mut F, s: &mut [u8], n: usize) -> bool
     ensures { result ≡ true → n ≤ length s.old }
 {
     if n > s.len() {
         return false;
     }
-    io::read_full(fd, &mut s[..n]) == n
+    read_full(file, &mut s[..n]) == n
 }
 
 // Every place of s becomes v.
@@ -175,18 +190,15 @@ impl Tally {
     }
 }
 
-// Writes "NAME CASES ok", or "NAME CASES differ: N, the first is K", and the end of the line.
-pub fn report(name: &[u8], t: Tally) {
-    io::write_all(STDOUT_FILENO, name);
-    io::write_all(STDOUT_FILENO, b" ");
-    io::print_decimal(STDOUT_FILENO, t.cases);
+// Writes "NAME CASES ok", or "NAME CASES differ: N, the first is K", and the end of the line. What cannot be written is left out.
+pub fn report<R: Print>(rt: &R, name: &[u8], t: Tally) {
+    let _ = rt.write_all(name);
     if t.differ == 0 {
-        io::write_all(STDOUT_FILENO, b" ok\n");
+        let _ = println!(rt; " {} ok", t.cases);
     } else {
-        io::write_all(STDOUT_FILENO, b" differ: ");
-        io::print_decimal(STDOUT_FILENO, t.differ);
-        io::write_all(STDOUT_FILENO, b", the first is ");
-        io::print_decimal(STDOUT_FILENO, t.first);
-        io::write_all(STDOUT_FILENO, b"\n");
+        let _ = println!(rt;
+            " {} differ: {}, the first is {}",
+            t.cases, t.differ, t.first
+        );
     }
 }

@@ -1,7 +1,8 @@
 // A stored sheet: 36 bytes that say how long its parts are and what is expected, then the text, the numbers lent to the run, the numbers that it leaves,
 // the numbers of the check's sets that are not 0 with their places, the listing, and the page.
 use limits::SETS;
-use replay::{fill, fill_front};
+use replay::{fill, fill_front, read_full};
+use std::io::Read;
 use stored::{Verdict, pair, verdict_in, wide};
 
 // What the sets hold when they are lent to the check.
@@ -50,32 +51,32 @@ pub fn case_in(b: &[u8; 36]) -> Case {
 }
 
 // One stored number of the sets, at its place.
-fn read_place(fd: i32, s: &mut [i64]) {
+fn read_place<F: Read>(file: &mut F, s: &mut [i64]) {
     let mut b = [0u8; 2];
-    io::read_full(fd, &mut b);
+    read_full(file, &mut b);
     let place = pair(b[0], b[1]);
-    let value = replay::read_number(fd);
+    let value = replay::read_number(file);
     if place < s.len() {
         s[place] = value;
     }
 }
 
 // n numbers with their places, from the file into s.
-fn read_places(fd: i32, s: &mut [i64], n: usize) {
+fn read_places<F: Read>(file: &mut F, s: &mut [i64], n: usize) {
     let mut i = 0;
     while i < n {
-        read_place(fd, s);
+        read_place(file, s);
         i += 1;
     }
 }
 
 // The sets as the check is to leave them: as lent, or after a pass those of the registers, of which those that are not 0 are stored.
-pub fn read_sets(fd: i32, c: Case, want: &mut [i64]) -> bool {
+pub fn read_sets<F: Read>(file: &mut F, c: Case, want: &mut [i64]) -> bool {
     fill(want, OLD_SETS);
     if c.checked.kind != 0 {
         return true;
     }
     let is_long = fill_front(want, SETS, 0);
-    read_places(fd, want, c.stored);
+    read_places(file, want, c.stored);
     is_long
 }

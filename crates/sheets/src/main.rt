@@ -8,13 +8,19 @@ mod reads;
 mod runs;
 
 use case::Case;
-use replay::{Step, Tally};
+use replay::{Step, Tally, read_full};
+use std::fs;
+use std::io::Read;
+use std::rt::Files;
 
 // How many calls give no text; the others are the parts that write one.
 const PLAIN: u8 = 4;
 
 // More turns than the file has sheets: a proved loop has to end, and nothing says that a file does.
 const TURNS: usize = 1000000;
+
+// More bytes than a stored text has.
+const TEXT_ROOM: usize = 65536;
 
 // One call on one sheet. The slices hold the whole case, and `c` says how much of them is in use.
 fn agrees(call: u8, c: Case, text: &[u8], lent: &mut [i64], left: &[i64], sets: &[i64]) -> bool {
@@ -64,19 +70,19 @@ fn writes(call: u8, c: Case, text: &[u8], listed: &[u8], paged: &[u8]) -> bool {
 }
 
 // Reads a case into slices longer than any case needs.
-fn replay_case(call: u8, fd: i32, c: Case) -> bool {
-    let mut text = io::large_buffer();
+fn replay_case<F: Read>(call: u8, file: &mut F, c: Case) -> bool {
+    let mut text = [0u8; TEXT_ROOM];
     let mut lent = [0i64; 64];
     let mut left = [0i64; 64];
     let mut sets = replay::numbers();
-    let mut listed = io::buffer();
-    let mut paged = io::large_buffer();
-    let is_text = replay::read_bytes(fd, &mut text, c.text);
-    let is_lent = replay::read_front(fd, &mut lent, c.lent);
-    let is_left = replay::read_front(fd, &mut left, c.lent);
-    let is_sets = case::read_sets(fd, c, &mut sets);
-    let is_listed = replay::read_bytes(fd, &mut listed, c.listed);
-    let is_paged = replay::read_bytes(fd, &mut paged, c.page);
+    let mut listed = [0u8; parts::LISTING_ROOM];
+    let mut paged = [0u8; parts::PAGE_ROOM];
+    let is_text = replay::read_bytes(file, &mut text, c.text);
+    let is_lent = replay::read_front(file, &mut lent, c.lent);
+    let is_left = replay::read_front(file, &mut left, c.lent);
+    let is_sets = case::read_sets(file, c, &mut sets);
+    let is_listed = replay::read_bytes(file, &mut listed, c.listed);
+    let is_paged = replay::read_bytes(file, &mut paged, c.page);
     if !(is_text && is_lent && is_left && is_sets && is_listed && is_paged) {
         return false;
     }
@@ -88,12 +94,12 @@ fn replay_case(call: u8, fd: i32, c: Case) -> bool {
 }
 
 // One stored case, if there is one more.
-fn next_case(call: u8, fd: i32) -> Step {
+fn next_case<F: Read>(call: u8, file: &mut F) -> Step {
     let mut b = [0u8; 36];
-    if io::read_full(fd, &mut b) < 36 {
+    if read_full(file, &mut b) < 36 {
         return Step::End;
     }
-    if replay_case(call, fd, case::case_in(&b)) {
+    if replay_case(call, file, case::case_in(&b)) {
         Step::Agrees
     } else {
         Step::Differs
@@ -101,35 +107,33 @@ fn next_case(call: u8, fd: i32) -> Step {
 }
 
 // All cases of a file.
-fn replay_cases(call: u8, fd: i32) -> Tally {
+fn replay_cases<F: Read>(call: u8, file: &mut F) -> Tally {
     let mut t = Tally::new();
     let mut turns = TURNS;
     while turns > 0 && t.open {
-        t = t.counted(next_case(call, fd));
+        t = t.counted(next_case(call, file));
         turns -= 1;
     }
     t
 }
 
-// Replays all sheets through one call, and reports.
-fn replay_call(call: u8, name: &[u8]) {
-    let file = b"sheets";
-    let fd = os::open_read(file);
-    if fd < 0 {
-        os::fail(file);
-        return;
+// Replays all sheets through one call, and reports; or says on standard error why the file cannot be opened.
+fn replay_call<R: Files + Print + Eprint>(rt: &R, call: u8, name: &str) {
+    let path = "sheets";
+    match fs::open(rt, path) {
+        Ok(mut file) => replay::report(rt, name.as_bytes(), replay_cases(call, &mut file)),
+        Err(e) => {
+            let _ = eprintln!(rt; "{path}: {e}");
+        }
     }
-    let t = replay_cases(call, fd);
-    libc::close(fd);
-    replay::report(name, t);
 }
 
 // Each file of cases, and a line of report for each.
-fn main() {
-    replay_call(0, b"judge");
-    replay_call(1, b"line");
-    replay_call(2, b"run");
-    replay_call(3, b"check");
-    replay_call(4, b"listing");
-    replay_call(5, b"page");
+fn main(rt: HostRuntime) {
+    replay_call(&rt, 0, "judge");
+    replay_call(&rt, 1, "line");
+    replay_call(&rt, 2, "run");
+    replay_call(&rt, 3, "check");
+    replay_call(&rt, 4, "listing");
+    replay_call(&rt, 5, "page");
 }

@@ -21,5 +21,5 @@ pub fn found(c: Case, text: &[u8]) -> bool {
     if end > text.len() {
         return false;
     }
-    check::same(sheet::line(text, c.line), &text[start..end])
+    sheet::line(text, c.line) == &text[start..end]
 }

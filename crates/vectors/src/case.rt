@@ -1,5 +1,6 @@
 // What a stored case of a call on sets says, and what it expects in out.
 use replay::{fill, read_front};
+use std::io::Read;
 use stored::{pair, wide};
 
 // What out holds when it is lent; no case has this number.
@@ -36,8 +37,8 @@ pub fn case_in(b: &[u8; 16]) -> Case {
 }
 
 // What out is lent with, and what it is to be afterwards.
-pub fn ready_out(fd: i32, c: Case, out: &mut [i64], want: &mut [i64]) -> bool {
+pub fn ready_out<F: Read>(file: &mut F, c: Case, out: &mut [i64], want: &mut [i64]) -> bool {
     fill(out, OLD_OUT);
     fill(want, OLD_OUT);
-    read_front(fd, want, c.count)
+    read_front(file, want, c.count)
 }

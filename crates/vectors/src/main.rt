@@ -8,6 +8,9 @@ mod points;
 mod sets;
 
 use replay::{Step, Tally};
+use std::fs;
+use std::io::Read;
+use std::rt::Files;
 
 // How many operations are set calls that the original has, and where the point operations end; the others are those for the closest setpoint.
 const SETS: u8 = 15;
@@ -18,86 +21,84 @@ const POINTS_END: u8 = 30;
 const TURNS: usize = 1000000;
 
 // One stored case, if there is one more.
-fn next_case(op: u8, fd: i32) -> Step {
+fn next_case<F: Read>(op: u8, file: &mut F) -> Step {
     if op < SETS {
-        sets::next_case(op, fd)
+        sets::next_case(op, file)
     } else if op < POINTS_END {
-        points::next_case(op - SETS, fd)
+        points::next_case(op - SETS, file)
     } else {
-        closest::next_case(op - POINTS_END, fd)
+        closest::next_case(op - POINTS_END, file)
     }
 }
 
 // All cases of a file.
-fn replay_cases(op: u8, fd: i32) -> Tally {
+fn replay_cases<F: Read>(op: u8, file: &mut F) -> Tally {
     let mut t = Tally::new();
     let mut turns = TURNS;
     while turns > 0 && t.open {
-        t = t.counted(next_case(op, fd));
+        t = t.counted(next_case(op, file));
         turns -= 1;
     }
     t
 }
 
-// Replays the cases of one file, and reports.
-fn replay_file(op: u8, name: &[u8]) {
-    let fd = os::open_read(name);
-    if fd < 0 {
-        os::fail(name);
-        return;
+// Replays the cases of one file, and reports; or says on standard error why it cannot be opened.
+fn replay_file<R: Files + Print + Eprint>(rt: &R, op: u8, name: &str) {
+    match fs::open(rt, name) {
+        Ok(mut file) => replay::report(rt, name.as_bytes(), replay_cases(op, &mut file)),
+        Err(e) => {
+            let _ = eprintln!(rt; "{name}: {e}");
+        }
     }
-    let t = replay_cases(op, fd);
-    libc::close(fd);
-    replay::report(name, t);
 }
 
 // The set calls, a file each.
-fn replay_sets() {
-    replay_file(0, b"neg");
-    replay_file(1, b"abs");
-    replay_file(2, b"not");
-    replay_file(3, b"add");
-    replay_file(4, b"sub");
-    replay_file(5, b"mul");
-    replay_file(6, b"div");
-    replay_file(7, b"rem");
-    replay_file(8, b"and");
-    replay_file(9, b"or");
-    replay_file(10, b"le");
-    replay_file(11, b"lt");
-    replay_file(12, b"ne");
-    replay_file(13, b"union");
-    replay_file(14, b"intersect");
+fn replay_sets<R: Files + Print + Eprint>(rt: &R) {
+    replay_file(rt, 0, "neg");
+    replay_file(rt, 1, "abs");
+    replay_file(rt, 2, "not");
+    replay_file(rt, 3, "add");
+    replay_file(rt, 4, "sub");
+    replay_file(rt, 5, "mul");
+    replay_file(rt, 6, "div");
+    replay_file(rt, 7, "rem");
+    replay_file(rt, 8, "and");
+    replay_file(rt, 9, "or");
+    replay_file(rt, 10, "le");
+    replay_file(rt, 11, "lt");
+    replay_file(rt, 12, "ne");
+    replay_file(rt, 13, "union");
+    replay_file(rt, 14, "intersect");
 }
 
 // The point operations, a file each.
-fn replay_points() {
-    replay_file(15, b"point_neg");
-    replay_file(16, b"point_abs");
-    replay_file(17, b"point_not");
-    replay_file(18, b"point_add");
-    replay_file(19, b"point_sub");
-    replay_file(20, b"point_mul");
-    replay_file(21, b"point_div");
-    replay_file(22, b"point_rem");
-    replay_file(23, b"point_and");
-    replay_file(24, b"point_or");
-    replay_file(25, b"point_le");
-    replay_file(26, b"point_lt");
-    replay_file(27, b"point_ne");
-    replay_file(28, b"point_next");
-    replay_file(29, b"point_prev");
+fn replay_points<R: Files + Print + Eprint>(rt: &R) {
+    replay_file(rt, 15, "point_neg");
+    replay_file(rt, 16, "point_abs");
+    replay_file(rt, 17, "point_not");
+    replay_file(rt, 18, "point_add");
+    replay_file(rt, 19, "point_sub");
+    replay_file(rt, 20, "point_mul");
+    replay_file(rt, 21, "point_div");
+    replay_file(rt, 22, "point_rem");
+    replay_file(rt, 23, "point_and");
+    replay_file(rt, 24, "point_or");
+    replay_file(rt, 25, "point_le");
+    replay_file(rt, 26, "point_lt");
+    replay_file(rt, 27, "point_ne");
+    replay_file(rt, 28, "point_next");
+    replay_file(rt, 29, "point_prev");
 }
 
 // The calls for the closest setpoint, a file each.
-fn replay_closest() {
-    replay_file(30, b"nearest");
-    replay_file(31, b"within");
+fn replay_closest<R: Files + Print + Eprint>(rt: &R) {
+    replay_file(rt, 30, "nearest");
+    replay_file(rt, 31, "within");
 }
 
 // A line of report for each operation.
-fn main() {
-    replay_sets();
-    replay_points();
-    replay_closest();
+fn main(rt: HostRuntime) {
+    replay_sets(&rt);
+    replay_points(&rt);
+    replay_closest(&rt);
 }

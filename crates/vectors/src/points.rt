@@ -1,6 +1,7 @@
 // The point operations. A case is four numbers: both arguments, 1 or 0 for a result or none, and the result.
 use number::Maybe;
-use replay::Step;
+use replay::{Step, read_full};
+use std::io::Read;
 use stored::number_in;
 
 // An operation that always has an answer.
@@ -38,15 +39,15 @@ fn as_expected(r: Maybe, is: i64, value: i64) -> bool {
 }
 
 // The next case of the file.
-pub fn next_case(op: u8, fd: i32) -> Step {
+pub fn next_case<F: Read>(op: u8, file: &mut F) -> Step {
     let mut b = [0u8; 8];
-    if io::read_full(fd, &mut b) < 8 {
+    if read_full(file, &mut b) < 8 {
         return Step::End;
     }
     let x = number_in(&b);
-    let y = replay::read_number(fd);
-    let is = replay::read_number(fd);
-    let value = replay::read_number(fd);
+    let y = replay::read_number(file);
+    let is = replay::read_number(file);
+    let value = replay::read_number(file);
     if as_expected(call(op, x, y), is, value) {
         Step::Agrees
     } else {

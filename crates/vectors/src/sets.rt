@@ -1,7 +1,8 @@
 // The set calls. A case is 16 bytes that say what is lent and what is expected, then the numbers of the left set, the right set and the answer.
 use crate::case::{Case, case_in, ready_out};
-use replay::{Step, fill, fill_front, read_front, same};
+use replay::{Step, fill, fill_front, read_front, read_full, same};
 use replies::Reply;
+use std::io::Read;
 use stored::reply_as_expected;
 
 // What work holds when it is lent; no case has this number.
@@ -86,16 +87,16 @@ fn agrees(
 }
 
 // Replays a case on slices longer than any case needs.
-fn replay_case(op: u8, fd: i32, c: Case) -> bool {
+fn replay_case<F: Read>(op: u8, file: &mut F, c: Case) -> bool {
     let mut left = [0i64; 64];
     let mut right = [0i64; 64];
     let mut work = replay::numbers();
     let mut out = replay::numbers();
     let mut cleared = replay::numbers();
     let mut want = replay::numbers();
-    let is_left = read_front(fd, &mut left, c.left);
-    let is_right = read_front(fd, &mut right, c.right);
-    let is_out = ready_out(fd, c, &mut out, &mut want);
+    let is_left = read_front(file, &mut left, c.left);
+    let is_right = read_front(file, &mut right, c.right);
+    let is_out = ready_out(file, c, &mut out, &mut want);
     let is_work = ready_work(c, &mut work, &mut cleared);
     is_left
         && is_right
@@ -105,12 +106,12 @@ fn replay_case(op: u8, fd: i32, c: Case) -> bool {
 }
 
 // The next case of the file.
-pub fn next_case(op: u8, fd: i32) -> Step {
+pub fn next_case<F: Read>(op: u8, file: &mut F) -> Step {
     let mut b = [0u8; 16];
-    if io::read_full(fd, &mut b) < 16 {
+    if read_full(file, &mut b) < 16 {
         return Step::End;
     }
-    if replay_case(op, fd, case_in(&b)) {
+    if replay_case(op, file, case_in(&b)) {
         Step::Agrees
     } else {
         Step::Differs

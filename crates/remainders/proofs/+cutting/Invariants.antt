@@ -1,0 +1,15 @@
+-- Three steps to each turn of `rem_with`.
+use Rattle.std.proofs.Common.{◌+◌, ◌*◌}
+use Rattle.remainders.proofs.+cutting.Given as goal
+
+abbrev pub decreases-rem_if : goal.decreases-rem_if
+decreases-rem_if l = 3 * l.n + 1
+
+abbrev pub decreases-cut_left : goal.decreases-cut_left
+decreases-cut_left l = 3 * l.n + 2
+
+abbrev pub decreases-cut_right : goal.decreases-cut_right
+decreases-cut_right l = 3 * l.n + 2
+
+abbrev pub decreases-rem_with : goal.decreases-rem_with
+decreases-rem_with l = 3 * l.n
