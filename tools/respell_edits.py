@@ -26,6 +26,12 @@ BY_HAND = {
         ("return LineForm::Refused(UNGRAMMATICAL);", "return LineForm::In(r, lo, hi);"),
     ],
     "crates/literals/must-fail/scale_of_no_decimals_for_all.edit": [("    let mut i = d;", "    let mut i: usize = 0;")],
+    "crates/words/must-fail/loses_a_half_word.edit": [
+        (
+            "    let mixed = std::num::wrapping_add_u64(a1 * b0, a0 * b1);",
+            "    let mixed = { let (a0, b1) = (a1, b0); std::num::wrapping_add_u64(a1 * b0, a0 * b1) };",
+        ),
+    ],
 }
 WORD = r"[A-Za-zℕℤℚα-ωΑ-Ω_◌][\w'′ℕℤα-ωΑ-Ω◌]*(?:-[\w'′ℕℤα-ωΑ-Ω]+)*"
 OPERATOR = r"_[^\w\s(){},;.\"]+[ℕℤ]?_|◌[^\w\s(){},;.\"◌]+[ℕℤ]?◌"
