@@ -16,8 +16,8 @@ use Rattle.page.specs.Marked.{marked_rows}
 use Rattle.page.proofs.Rows.{page_size}
 use Rattle.page.proofs.passed.Goals as goal
 
-marks-long : (t : List ℕ) (n : ℕ) {marks : List Bool} → marks ≡ marks_after t n → length marks ≡ registers
-marks-long t n e = ap length e ∙ length_marks t n
+marks_long : (t : List ℕ) (n : ℕ) {marks : List Bool} → marks ≡ marks_after t n → length marks ≡ registers
+marks_long t n e = ap length e ∙ length_marks t n
 
 text_of : (sets : List ℤ) {marks after : List Bool} → marks ≡ after → text (rows_text (marked_rows marks sets 0 registers)) ≡ text (rows_text (marked_rows after sets 0 registers))
 text_of sets e = ap (λ (m : List Bool). text (rows_text (marked_rows m sets 0 registers))) e
@@ -28,11 +28,11 @@ mark_lines-requires c = (c.requires.0, refl)
 
 pub slice_bounds-count_lines-end : goal.slice_bounds-count_lines-end
 slice_bounds-count_lines-end c =
-    sym (marks-long c.args.sheet.now c.args.n c.mark_lines.ensures)
+    sym (marks_long c.args.sheet.now c.args.n c.mark_lines.ensures)
 
 pub count_lines-lines-requires : goal.count_lines-lines-requires
 count_lines-lines-requires c =
-    (marks-long c.args.sheet.now c.args.n c.mark_lines.ensures, c.requires.1)
+    (marks_long c.args.sheet.now c.args.n c.mark_lines.ensures, c.requires.1)
 
 pub returns-then-out-lines : goal.returns-then-out-lines
 returns-then-out-lines c =
@@ -43,13 +43,13 @@ returns-then-out-lines c =
 
 pub slice_bounds-write_lines-end : goal.slice_bounds-write_lines-end
 slice_bounds-write_lines-end c =
-    sym (marks-long c.args.sheet.now c.args.n c.mark_lines.ensures)
+    sym (marks_long c.args.sheet.now c.args.n c.mark_lines.ensures)
 
 pub write_lines-requires : goal.write_lines-requires
 write_lines-requires c =
     let marks = c.mark_lines.new.marks in
     let fits = page_size marks c.args.sets.now c.requires.1 in record {
-      marked = (marks-long c.args.sheet.now c.args.n c.mark_lines.ensures, c.requires.1);
+      marked = (marks_long c.args.sheet.now c.args.n c.mark_lines.ensures, c.requires.1);
       room = omega (arith, fits, c.count_lines-lines.ensures.0);
     }
 
