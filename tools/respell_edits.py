@@ -19,6 +19,20 @@ import subprocess
 import sys
 
 MOVED = {"crates/meaning/specs/Contracts.antt": "crates/meaning/specs/Promises.antt"}
+# Where the change of a name would stand before the wrong answer: today's goals and facts have the names of the tests, and a number with no type is another one.
+BY_HAND = {
+    "crates/lines/must-fail/lo_past_hi_accepted.edit": [
+        ("                return LineForm::Refused(UNGRAMMATICAL);", "                return LineForm::Refused(UNGRAMMATICAL) ;"),
+        ("return LineForm::Refused(UNGRAMMATICAL);", "return LineForm::In(r, lo, hi);"),
+    ],
+    "crates/literals/must-fail/scale_of_no_decimals_for_all.edit": [("    let mut i = d;", "    let mut i: usize = 0;")],
+    "crates/words/must-fail/loses_a_half_word.edit": [
+        (
+            "    let mixed = std::num::wrapping_add_u64(a1 * b0, a0 * b1);",
+            "    let mixed = { let (a0, b1) = (a1, b0); std::num::wrapping_add_u64(a1 * b0, a0 * b1) };",
+        ),
+    ],
+}
 WORD = r"[A-Za-zℕℤℚα-ωΑ-Ω_◌][\w'′ℕℤα-ωΑ-Ω◌]*(?:-[\w'′ℕℤα-ωΑ-Ω]+)*"
 OPERATOR = r"_[^\w\s(){},;.\"]+[ℕℤ]?_|◌[^\w\s(){},;.\"◌]+[ℕℤ]?◌"
 TOKEN = re.compile(r'--[^\n]*|//[^\n]*|b?"(?:[^"\\\n]|\\.)*"|' + OPERATOR + "|" + WORD + r"|\d+|\s+|.")
@@ -196,7 +210,7 @@ def main():
         path, pairs = edit_of(git("show", f"{commit}:{edit}"))
         path = os.path.join(edit.split("/must-fail/")[0], path)
         path = MOVED.get(path, path)
-        out, wrong = turned(path, pairs, files, names)
+        out, wrong = (BY_HAND[edit], []) if edit in BY_HAND else turned(path, pairs, files, names)
         left += [f"{edit}: {w}" for w in wrong]
         if out is None:
             continue

@@ -2,7 +2,7 @@
 // an enum there is a struct of numbers here.
 #![tactic(auto)]
 
+pub mod interval_sets;
 pub mod numbers;
 pub mod reading;
-pub mod sets;
 pub mod sheets;

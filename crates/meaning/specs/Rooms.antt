@@ -1,4 +1,4 @@
--- How long an answer can be: a call that is lent an `out` of so many numbers never returns 4. The contract of each set call promises it (Contracts.antt).
+-- How long an answer can be: a call that is lent an `out` of so many numbers never returns 4. The contract of each set call promises it (Promises.antt).
 -- The theorem is `rooms` of sets/proofs/Rooms.antt, for arguments whose numbers are from MIN to MAX, as those of a slice of i64 are. Assumes nothing.
 use Rattle.std.specs.Prelude.{ℤ, length, ◌≡◌, Bool, List, ℕ, ◌+◌, ◌≤◌}
 use Rattle.meaning.specs.Refusals.{no_room}

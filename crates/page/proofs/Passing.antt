@@ -16,7 +16,7 @@ use Rattle.sheet_check.specs.declared.Answer.{Answer}
 use Rattle.sheet_check.specs.declared.Answer.TheVariants as answer
 use Rattle.listed.specs.Marks.{marks_after}
 use Rattle.listed.specs.Told.{Told}
-use Rattle.listed.proofs.Passed.{Passed, told_pass, part_passed, part_finding, part_refused}
+use Rattle.listed.proofs.Passed.{Passed, part_passed, part_finding, part_refused}
 use Rattle.page.specs.Marked.{own_rows, marked_rows, Shows}
 
 module _ (ls : List Line) (S : List Set) (m : List Bool) (l : List ℤ)

@@ -55,7 +55,7 @@ fn closed(text: &[u8], i: usize, v: SetV) -> SetRead
 }
 
 // The set of an argument, with `depth` brackets left: of a form if it opens a bracket, else of a literal.
-#[cycle(set_arg_set_form)]
+#[cycle(working)]
 pub fn set_arg(text: &[u8], depth: usize, regs: &[i64], work: &mut [i64]) -> SetRead
     requires { Shown regs.now × (8192 ≤ length work.old) }
     ensures { read_of result ≡ arg_at (values regs.now) depth text.now }
@@ -75,7 +75,7 @@ pub fn set_arg(text: &[u8], depth: usize, regs: &[i64], work: &mut [i64]) -> Set
 }
 
 // The set of a form, with `depth` brackets left inside its own. The second argument's text starts in the middle of the form's.
-#[cycle(set_arg_set_form)]
+#[cycle(working)]
 fn set_form(text: &[u8], depth: usize, regs: &[i64], work: &mut [i64]) -> SetRead
     requires { Shown regs.now × (8192 ≤ length work.old) }
     ensures { read_of result ≡ form_at (values regs.now) depth text.now }

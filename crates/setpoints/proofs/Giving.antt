@@ -11,7 +11,6 @@ use Rattle.meaning.specs.Setpoints.{nearest, near, setpoint_refusal, ReturnedMem
 use Rattle.meaning.specs.Closest.{NearestCall, WithinCall}
 use Rattle.meaning.specs.Promises.{Nears, Reaches}
 use Rattle.laws.proofs.Integers.{if_yes, if_no}
-use Rattle.laws.proofs.Demand2Calls.{unrefused_call}
 use Rattle.laws.proofs.Setpoints.{nearest_call, within_call, within_room}
 use Rattle.sets.specs.Sets.{Argument}
 use Rattle.replies.specs.Returning.{returned, Cased, Handed}

@@ -5,7 +5,7 @@
 mod case;
 mod closest;
 mod points;
-mod sets;
+mod set_cases;
 
 use replay::{Step, Tally};
 use std::fs;
@@ -23,7 +23,7 @@ const TURNS: usize = 1000000;
 // One stored case, if there is one more.
 fn next_case<F: Read>(op: u8, file: &mut F) -> Step {
     if op < SETS {
-        sets::next_case(op, file)
+        set_cases::next_case(op, file)
     } else if op < POINTS_END {
         points::next_case(op - SETS, file)
     } else {

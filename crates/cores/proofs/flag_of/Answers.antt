@@ -1,0 +1,31 @@
+-- The flag of the definition, by the operation's name.
+use Rattle.meaning.specs.NumberIntervals.{flag1, flag2}
+use Rattle.cores.proofs.flag_of.Goals as goal
+
+pub returns-in-Neg : goal.returns-in-Neg
+unfolding flag1
+returns-in-Neg c = rw c.in-Neg.is
+
+pub returns-in-Abs : goal.returns-in-Abs
+unfolding flag1
+returns-in-Abs c = rw c.in-Abs.is
+
+pub returns-in-Add : goal.returns-in-Add
+unfolding flag2
+returns-in-Add c = rw c.in-Add.is
+
+pub returns-in-Sub : goal.returns-in-Sub
+unfolding flag2
+returns-in-Sub c = rw c.in-Sub.is
+
+pub returns-in-Mul : goal.returns-in-Mul
+unfolding flag2
+returns-in-Mul c = rw c.in-Mul.is
+
+pub returns-in-Div : goal.returns-in-Div
+unfolding flag2
+returns-in-Div c = rw c.in-Div.is c.zero_flag.ensures
+
+pub returns-in-Rem : goal.returns-in-Rem
+unfolding flag2
+returns-in-Rem c = rw c.in-Rem.is c.zero_flag-in-Rem.ensures

@@ -1,0 +1,8 @@
+-- What both calls of one walk do, for its own walk.
+use Rattle.set_calls.proofs.Right.{unites}
+use Rattle.member_calls.proofs.union.Goals as goal
+
+pub returns : goal.returns
+returns c =
+    let both = unites c.args.left.now c.args.right.now c.args.out.now c.walked.ensures.handed c.walked.ensures.arguments in
+    record { unites = both.0; cased = both.1 }

@@ -1,0 +1,9 @@
+-- What all calls of two sets with work do, for its own operation.
+use Rattle.meaning.specs.Number as point
+use Rattle.set_calls.proofs.Right.{works2}
+use Rattle.product_calls.proofs.rem.Goals as goal
+
+pub returns : goal.returns
+returns c =
+    let both = works2 point.rem c.args.left.now c.args.flag c.args.right.now c.args.out.now c.args.work.now c.joined.ensures.ended c.joined.ensures.arguments in
+    record { works2 = both.0; cased = both.1 }
