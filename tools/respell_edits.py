@@ -18,7 +18,10 @@ import re
 import subprocess
 import sys
 
-MOVED = {"crates/meaning/specs/Contracts.antt": "crates/meaning/specs/Promises.antt"}
+MOVED = {
+    "crates/meaning/specs/Contracts.antt": "crates/meaning/specs/Promises.antt",
+    "crates/exports/src/sets.rt": "crates/exports/src/interval_sets.rt",
+}
 # Where the change of a name would stand before the wrong answer: today's goals and facts have the names of the tests, and a number with no type is another one.
 BY_HAND = {
     "crates/lines/must-fail/lo_past_hi_accepted.edit": [
@@ -214,7 +217,8 @@ def main():
         left += [f"{edit}: {w}" for w in wrong]
         if out is None:
             continue
-        if out == pairs:
+        text = f"file: {path.split('/', 2)[2]}\n" + "".join(f"old: {o}\nnew: {n}\n" for o, n in out)
+        if text == git("show", f"{commit}:{edit}"):
             same += 1
             continue
         written += 1
@@ -222,7 +226,6 @@ def main():
         for sign, those in (("-", pairs), ("+", out)):
             print("".join(f"    {sign} {old}\n    {sign} {new}\n" for old, new in those), end="")
         if write:
-            text = f"file: {path.split('/', 2)[2]}\n" + "".join(f"old: {o}\nnew: {n}\n" for o, n in out)
             with open(edit, "w", encoding="utf-8", newline="") as f:
                 f.write(text)
     print(f"{same} edits stand as they are, {written} turned, {len(left)} to look at:")
