@@ -8,7 +8,7 @@ ghost use Rattle.replay.specs.Tallied.{more as one_more, tallied};
 
 use std::io::Read;
 
-// Reads until b is full, the file ends or a read fails, and returns how many bytes it put at the front of b; the others stay as they were.
+// Reads until b is full, the file ends or a read fails, and returns how many bytes it put at the front of b.
 pub fn read_full<F: Read>(file: &mut F, b: &mut [u8]) -> usize
     ensures { result ≤ length b.new }
 {
