@@ -26,9 +26,48 @@ MOVED = {
 BY_HAND = {
     "crates/lines/must-fail/lo_past_hi_accepted.edit": [
         ("                return LineForm::Refused(UNGRAMMATICAL);", "                return LineForm::Refused(UNGRAMMATICAL) ;"),
-        ("return LineForm::Refused(UNGRAMMATICAL);", "return LineForm::In(r, lo, hi);"),
+        ("return LineForm::Refused(UNGRAMMATICAL);", "let kept = [LineForm::In(r, lo, hi), LineForm::Hold(r, lo, hi)]; return kept[held as usize];"),
     ],
     "crates/literals/must-fail/scale_of_no_decimals_for_all.edit": [("    let mut i = d;", "    let mut i: usize = 0;")],
+    "crates/number/must-fail/abs_keeps_minus_one.edit": [("    if x < 0 { neg(x) } else { x }", "    if x == -1 { return x; } if x < 0 { neg(x) } else { x }")],
+    "crates/number/must-fail/abs_keeps_the_negative.edit": [("    if x < 0 { neg(x) } else { x }", "    if x < 0 { neg(neg(x)) } else { neg(x) }")],
+    "crates/number/must-fail/next_stops_at_zero.edit": [("    if x < MAX {", "    if 0 <= x { return Maybe::Nothing; } if x < MAX {")],
+    "crates/number/must-fail/prev_stops_at_zero.edit": [("    if MIN < x {", "    if x <= 0 { return Maybe::Nothing; } if MIN < x {")],
+    "crates/products/must-fail/narrow_is_too_wide.edit": [("        false", "        (-4294967296 <= s) & (e <= 2147483648)")],
+    "crates/replies/must-fail/odd_before_many.edit": [("        return TOO_MANY;", "        let fine = is_normal(s); return NOT_NORMAL + fine as u8;")],
+    "crates/replies/must-fail/over_eight_intervals_refused.edit": [("if ENDS < s.len() {", "if 16 < s.len() { return TOO_MANY; } if ENDS < s.len() {")],
+    "crates/run/must-fail/sixteen_numbers_refused.edit": [
+        ("if lent.len() < REGISTERS {", "if lent.len() < 17 { return Answer::Refused(TOO_SHORT, 0); } if lent.len() < REGISTERS {"),
+    ],
+    "crates/set_values/must-fail/crowded_zero_is_closed.edit": [
+        (
+            "    if flag {",
+            "    if flag { if ENDS < count { let m = closing::close(work, count, INTERVALS); if m <= ENDS { if m <= work.len() { let mut ends = [0i64; ENDS];"
+            " let done = slices::copy_front(&mut ends, work, m); return SetV { stop: 0, count: m / 2, ends: ends }; } } }",
+        ),
+    ],
+    "crates/set_values/must-fail/flag_turned_round.edit": [("    if flag {", "    let flag = !flag; if flag {")],
+    "crates/set_values/must-fail/zero_alone_passed.edit": [
+        (
+            "    if flag {",
+            "    if flag { if count <= ENDS { let mut ends = [0i64; ENDS]; let done = slices::copy_front(&mut ends, work, count);"
+            " return SetV { stop: 0, count: count / 2, ends: ends }; }",
+        ),
+    ],
+    "crates/setpoints/must-fail/end_for_a_member.edit": [("    } else if hi < x {", "    } else if lo < x { hi } else if hi < x {")],
+    "crates/setpoints/must-fail/one_interval_is_empty.edit": [("    if s.len() == 0 {", "    if s.len() < 3 { return EMPTY_SET; } if s.len() == 0 {")],
+    "crates/sets/must-fail/two_left_unjoined.edit": [("if n < 4 {", "if n < 6 { return n; } if n < 4 {")],
+    "crates/sheet/must-fail/line_of_121_bytes_accepted.edit": [
+        ("if LINE < e - at {", "if (std::num::wrapping_sub_usize(e, at) == 121) & (n < LINES) { n += 1; at = e + 1; continue; } if LINE < e - at {"),
+    ],
+    "crates/sheet_check/must-fail/sets_of_528_refused.edit": [
+        ("if sets.len() < SETS {", "if sets.len() < 529 { return Answer::Refused(TOO_SHORT, 0); } if sets.len() < SETS {"),
+    ],
+    "crates/sorting/must-fail/two_left_as_they_came.edit": [("if n < 4 {", "if n < 6 { return; } if n < 4 {")],
+    "crates/wide/must-fail/half_the_range_is_far.edit": [
+        ("    if v < 18446744073709551615 {", "    let v = v / 9223372036854775808 * 18446744073709551615; if v < 18446744073709551615 {"),
+    ],
+    "crates/wide/must-fail/next_window_always_far.edit": [("                return false;", "                return true;")],
     "crates/words/must-fail/loses_a_half_word.edit": [
         (
             "    let mixed = std::num::wrapping_add_u64(a1 * b0, a0 * b1);",
