@@ -1,12 +1,12 @@
 #!/usr/bin/env python3
 """Writes the repository's own definitions, lemmas and fields in the spelling of today's Rattle.
 
-usage: python3 tools/respell.py      at the top of the repository, once, after /opt/rattle/port/port.py and before any edit by hand
+usage: python3 tools/respell.py [--clashes]     at the top of the repository, once, after /opt/rattle/port/port.py and before any edit by hand
 
 Types and modules keep their upper camel case; every other name is in snake case, words joined by an underscore: `startSets` is `start_sets`,
 `inside-all` is `inside_all`. A lemma that would have its function's name gets `_lem`. Names of the libraries, names that the check generates and
 functions of src/ keep theirs. The file meaning/specs/Contracts.antt is Promises.antt, since a crate may have no file of that name in specs/.
-It prints two names that would fall together, and then writes nothing.
+With --clashes it writes nothing, and prints the names of a file that would be spelled alike.
 """
 
 import os
