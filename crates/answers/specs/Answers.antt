@@ -1,6 +1,6 @@
 -- What the structs for C say, in the words of `meaning`. Assumes nothing.
 use Rattle.std.specs.Prelude.{ℤ, pos, true, false}
-use Rattle.std.proofs.Math.Option.{Option, none, some}
+use Rattle.std.specs.Prelude.{Option, None, Some}
 use Rattle.meaning.specs.SetCalls.{Returned}
 use Rattle.meaning.specs.Setpoints.{ReturnedMember}
 use Rattle.meaning.specs.Run as run
@@ -12,8 +12,8 @@ use Rattle.answers.specs.declared.Text.{Text}
 
 -- a number and true, or 0 and false
 abbrev pub maybe_for : Option ℤ → Maybe
-maybe_for none = record { number = pos 0; there = false }
-maybe_for (some x) = record { number = x; there = true }
+maybe_for None = record { number = pos 0; there = false }
+maybe_for (Some x) = record { number = x; there = true }
 
 -- the fields of a set call's answer, each for its own
 abbrev pub answer_of : Answer → Returned

@@ -1,23 +1,17 @@
 -- What is asked of a set as a whole, read from its slice of ends. Assumes nothing.
 use mathlib.Core.Path.{◌≡◌, refl, sym, ap, ◌∙◌}
-use mathlib.Core.Bool.{true, false, cond, ◌&&◌}
-use mathlib.Core.List.{List, [], ◌∷◌, ◌++◌}
-use mathlib.Core.Option.{Option, none, some}
+use mathlib.Core.Bool.{cond}
+use mathlib.Core.List.{List, [], ◌∷◌}
+use Rattle.std.specs.Prelude.{None, Some}
 use Prim.Native.Nat.{suc, ◌-◌, ◌/◌, ◌%◌, ◌<◌}
 use native.Mathlib.Omega.{arith}
 use borrow.Author.Tests.{lt-ltb}
-use lib.Dec.{ltb, eqb}
+use lib.Dec.{ltb}
 use lib.ListN.{length, get_or}
 use lib.IntN.{ℤ, pos}
-use mir.Syntax.{w64}
-use mir.Val.{SFits, of_z}
-use borrow.Author.Tests.{eqb-true, eqb-false}
-use Rattle.meaning.specs.Number.{ONE, eq_z}
-use Rattle.meaning.specs.Bools.{BoolInterval}
-use Rattle.meaning.specs.Interval.{Interval, only}
-use Rattle.meaning.specs.NumberIntervals.{Set, filled, zero_only, constant, same_number, intervals, of_bools}
-use Rattle.laws.proofs.Integers.{by_test, zarith, eq_z_is}
-use Rattle.laws.proofs.Machine.{same}
+use Rattle.meaning.specs.Number.{eq_z}
+use Rattle.meaning.specs.Interval.{Interval}
+use Rattle.meaning.specs.NumberIntervals.{Set, filled, constant, intervals}
 
 pub filled_long : (l : List ℤ) → ltb 1 (length l) ≡ filled (intervals l)
 unfolding intervals
@@ -25,32 +19,9 @@ filled_long [] = refl
 filled_long (s ∷ []) = refl
 filled_long (s ∷ e ∷ r) = lt-ltb 1 (length (s ∷ e ∷ r)) (omega arith)
 
--- a test of bits is the test of the numbers
-pub same_bits : {x y : ℤ} → SFits w64 x → SFits w64 y → eqb (of_z w64 x) (of_z w64 y) ≡ eq_z x y
-same_bits {x} {y} f g =
-    by_test (eqb (of_z w64 x) (of_z w64 y))
-    (λ t. let e = same f g (eqb-true (of_z w64 x) (of_z w64 y) t) in let u : eq_z x y ≡ true = omega (zarith, e) in t ∙ sym u)
-    (λ t. t ∙ sym (by_test (eq_z x y) (λ u. absurd (eqb-false (of_z w64 x) (of_z w64 y) t (ap (of_z w64) {x = x} {y = y} (eq_z_is u)))) (λ u. u)))
+-- ---- a set of just one number
 
--- ---- {0}, and a set of just one number
-
-pub zero_not : (l : List ℤ) → (length l / 2 ≡ 1 → ⊥) → zero_only (intervals l) ≡ false
-unfolding intervals
-zero_not [] h = refl
-zero_not (s ∷ []) h = refl
-zero_not (s ∷ e ∷ []) h = absurd (h (omega arith))
-zero_not (s ∷ e ∷ x ∷ []) h = absurd (h (omega arith))
-zero_not (s ∷ e ∷ x ∷ y ∷ r) h = refl
-
-pub zero_one : (l : List ℤ) → length l / 2 ≡ 1 → zero_only (intervals l) ≡ (eq_z (get_or l 0 (pos 0)) (pos 0) && eq_z (get_or l 1 (pos 0)) (pos 0))
-unfolding intervals
-zero_one [] h = absurd (omega arith)
-zero_one (s ∷ []) h = absurd (omega arith)
-zero_one (s ∷ e ∷ []) h = refl
-zero_one (s ∷ e ∷ x ∷ []) h = refl
-zero_one (s ∷ e ∷ x ∷ y ∷ r) h = absurd (omega arith)
-
-pub constant_not : (l : List ℤ) → (length l / 2 ≡ 1 → ⊥) → constant (intervals l) ≡ none
+pub constant_not : (l : List ℤ) → (length l / 2 ≡ 1 → ⊥) → constant (intervals l) ≡ None
 unfolding intervals
 constant_not [] h = refl
 constant_not (s ∷ []) h = refl
@@ -58,17 +29,13 @@ constant_not (s ∷ e ∷ []) h = absurd (h (omega arith))
 constant_not (s ∷ e ∷ x ∷ []) h = absurd (h (omega arith))
 constant_not (s ∷ e ∷ x ∷ y ∷ r) h = refl
 
-pub constant_one : (l : List ℤ) → length l / 2 ≡ 1 → constant (intervals l) ≡ cond (eq_z (get_or l 0 (pos 0)) (get_or l 1 (pos 0))) (some (get_or l 0 (pos 0))) none
+pub constant_one : (l : List ℤ) → length l / 2 ≡ 1 → constant (intervals l) ≡ cond (eq_z (get_or l 0 (pos 0)) (get_or l 1 (pos 0))) (Some (get_or l 0 (pos 0))) None
 unfolding intervals
 constant_one [] h = absurd (omega arith)
 constant_one (s ∷ []) h = absurd (omega arith)
 constant_one (s ∷ e ∷ []) h = refl
 constant_one (s ∷ e ∷ x ∷ []) h = refl
 constant_one (s ∷ e ∷ x ∷ y ∷ r) h = absurd (omega arith)
-
-pub no_right : (x : Option ℤ) → same_number x none ≡ false
-no_right none = refl
-no_right (some x) = refl
 
 -- ---- the first start and the last end
 
@@ -104,22 +71,3 @@ bounds (s ∷ f ∷ x ∷ y ∷ r) e h =
   where
     top_of : ℤ → ℤ → Set → ℤ
     top_of s f t = top (record { lo = s; hi = f }) t
-
--- ---- a BoolInterval as a set, by its four cases
-
-module _ (m : BoolInterval) where
-  pub of_yes_yes : m.bfalse ≡ true → m.btrue ≡ true → only (pos 0) ++ only ONE ≡ of_bools m
-  unfolding of_bools
-  of_yes_yes p q = rw (p, q)
-
-  pub of_yes_no : m.bfalse ≡ true → m.btrue ≡ false → only (pos 0) ≡ of_bools m
-  unfolding of_bools
-  of_yes_no p q = rw (p, q)
-
-  pub of_no_yes : m.bfalse ≡ false → m.btrue ≡ true → only ONE ≡ of_bools m
-  unfolding of_bools
-  of_no_yes p q = rw (p, q)
-
-  pub of_no_no : m.bfalse ≡ false → m.btrue ≡ false → [] ≡ of_bools m
-  unfolding of_bools
-  of_no_no p q = rw (p, q)

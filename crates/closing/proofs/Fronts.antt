@@ -2,47 +2,53 @@
 use mathlib.Core.Path.{◌≡◌, refl, sym, ap, ◌∙◌}
 use mathlib.Core.Bool.{true}
 use mathlib.Core.List.{List, [], ◌∷◌, ◌++◌, append_assoc}
-use Prim.Native.Nat.{ℕ, zero, suc, ◌+◌, ◌-◌, ◌*◌, ◌/◌, ◌%◌, ◌≤◌, ◌<◌}
+use Prim.Native.Nat.{ℕ, suc, ◌+◌, ◌-◌, ◌*◌, ◌/◌, ◌%◌, ◌≤◌, ◌<◌}
 use native.Mathlib.Omega.{arith}
-use lib.ListN.{length, set, take, drop, length-append, length-drop, length-set, take-append-drop}
-use lib.Seq.{slice, slice_empty, length-slice, length-take-le, take-take, take-suc, take_at, get_or-take, get_or_at, set_at, take-set-lt, drop-set-lt, take-append-le, drop-append-le, drop_at}
+use lib.ListN.{length, get_or, set, take, drop, length-append, length-drop, take-append-drop, drop_of_length-le}
+use lib.Seq.{slice, slice_empty, length-slice, length-take-le, take-take, take-suc, take_at, get_or-drop, get_or_at, set_at, take-append-le, drop-append-le, drop_at, take_all, paste}
 use lib.IntN.{ℤ, pos, suc_ℤ}
 use native.Mathlib.Numerals.{add-one}
 use lib.Signed.{◌<ℤ◌}
+use Rattle.std.specs.Simd.{first_chunks}
+use Rattle.std.specs.Option.{MatchOption}
+use Rattle.std.specs.Prelude.{Option, None, Some}
 use Rattle.meaning.specs.NumberIntervals.{Set, Normal, flat, intervals}
 use Rattle.laws.proofs.Flat.{even_flat, length_intervals}
 use Rattle.sorting.specs.Order.{put_pair}
-use Rattle.sorting.proofs.Steps.{end_at, put_pair_length, put_pair_take, put_pair_drop, slice_two, drop_later, end_later}
+use Rattle.sorting.proofs.Chunks.{front_pair}
+use Rattle.sorting.proofs.Steps.{end_at, slice_two, drop_later}
 use Rattle.laws.proofs.Integers.{by_test, and_yes}
 use Rattle.meaning.specs.Close.{missing, close}
-use Rattle.closing.specs.Gaps.{at_least, thin, Open, gaps_of, no_gap, Least, taken_out, pushed, Ends, Closed}
-use Rattle.closing.proofs.Thin.{thin_by, shrink, thin_length, at_least_append, at_least_thin}
-use Rattle.closing.proofs.Least.{at_least_one, thin_new, thin_old}
+use Rattle.closing.specs.declared.Gap.{Gap}
+use Rattle.closing.specs.Gaps.{at_least, thin, Open, Lowest, pushed, Ends, Closed}
+use Rattle.closing.proofs.Thin.{thin_by, shrink, thin_length, at_least_append, at_least_thin, at_least_less}
+use Rattle.closing.proofs.Least.{at_least_one, none_fewer, thin_new, thin_old}
 use Rattle.closing.proofs.Bridge.{behind, flat_gaps}
 
 -- ---- the front: its first start, its gaps, its last end
 
-pub front_split : (l : List ℤ) (m : ℕ) → 2 ≤ m → m ≤ length l → take m l ≡ end_at l 0 ∷ gaps_of m l ++ end_at l (m - 1) ∷ []
-front_split [] m h k = absurd (omega arith)
-front_split (a ∷ r) zero h k = absurd (omega arith)
-front_split (a ∷ r) (suc zero) h k = absurd (omega arith)
-front_split (a ∷ r) (suc (suc n)) h k =
-    let e : suc (suc n) - 2 ≡ n = omega arith in
-    let f : suc (suc n) - 1 ≡ suc n = omega arith in
-    rw (e, f) (ap (λ (x : List ℤ). a ∷ x) (take-suc r n (pos 0) (omega arith)))
+-- the gaps of a list of ends
+abbrev pub gaps_of : List ℤ → List ℤ
+gaps_of l = take (length l - 2) (drop 1 l)
 
-pub gaps_front : (l : List ℤ) (m : ℕ) (a z : ℤ) (p : List ℤ) → take m l ≡ a ∷ p ++ z ∷ [] → length p + 2 ≡ m → gaps_of m l ≡ p
-gaps_front l zero a z p e h = absurd (omega arith)
-gaps_front l (suc zero) a z p e h = absurd (omega arith)
-gaps_front [] (suc (suc n)) a z p e h = absurd (let k = ap length e in omega arith)
-gaps_front (x ∷ r) (suc (suc n)) a z p e h =
-    let f : suc (suc n) - 2 ≡ n = omega arith in
-    let g : take (suc n) r ≡ p ++ z ∷ [] = ap (drop 1) e in
-    rw f (sym (take-take n (suc n) r (omega arith)) ∙ ap (take n) g ∙ take_at p (z ∷ []) n (omega arith))
+pub front_split : (l : List ℤ) → 2 ≤ length l → l ≡ end_at l 0 ∷ gaps_of l ++ end_at l (length l - 1) ∷ []
+front_split [] h = absurd (omega arith)
+front_split (a ∷ []) h = absurd (omega arith)
+front_split (a ∷ b ∷ r) h =
+    let e : length (a ∷ b ∷ r) - 2 ≡ length r = omega arith in
+    let f : length (a ∷ b ∷ r) - 1 ≡ suc (length r) = omega arith in
+    let n : suc (length r) ≡ length (b ∷ r) = refl in
+    rw (e, f) (ap (λ (x : List ℤ). a ∷ x) (sym (take_all (suc (length r)) (b ∷ r) (omega arith)) ∙ take-suc (b ∷ r) (length r) (pos 0) (omega arith)))
 
-pub last_front : (l : List ℤ) (m : ℕ) (a z : ℤ) (p : List ℤ) → take m l ≡ a ∷ p ++ z ∷ [] → length p + 2 ≡ m → end_at l (m - 1) ≡ z
-last_front l m a z p e h =
-    sym (get_or-take m l (m - 1) (pos 0) (omega arith)) ∙ ap (λ (x : List ℤ). end_at x (m - 1)) e ∙ get_or_at (a ∷ p) z [] (pos 0) (m - 1) (omega arith)
+pub gaps_front : (l : List ℤ) (a z : ℤ) (p : List ℤ) → l ≡ a ∷ p ++ z ∷ [] → gaps_of l ≡ p
+gaps_front l a z p e =
+    let n : length l - 2 ≡ length p = omega (arith, ap length e, length-append p (z ∷ [])) in
+    rw (n, e) (take_at p (z ∷ []) (length p) refl)
+
+pub last_front : (l : List ℤ) (a z : ℤ) (p : List ℤ) → l ≡ a ∷ p ++ z ∷ [] → end_at l (length l - 1) ≡ z
+last_front l a z p e =
+    let n : length l - 1 ≡ suc (length p) = omega (arith, ap length e, length-append p (z ∷ [])) in
+    rw (n, e) (get_or_at (a ∷ p) z [] (pos 0) (suc (length p)) refl)
 
 -- ---- gaps of a normal set are wide
 
@@ -68,105 +74,88 @@ open_thin [] o = tt
 open_thin (e ∷ []) o = tt
 open_thin (e ∷ s ∷ r) o = by_test (at_least (missing e s) r) (λ t. rw t o.1) (λ t. rw t (o.0, open_thin r o.1))
 
--- ---- a pair taken out of the first m numbers
+-- ---- the gap after `at` numbers closed, and an interval put behind the rest
 
-module _ (l : List ℤ) (i m : ℕ) (h : i + 2 ≤ m) (f : m ≤ length l) where
-  abbrev moved : List ℤ
-  moved = take i l ++ slice (i + 2) m l
+module _ (l : List ℤ) (at : ℕ) (s e : ℤ) (h : at + 3 ≤ length l) where
+  kept_length : length (take (at + 1) l ++ drop (at + 3) l) ≡ length l - 2
+  kept_length = length-append (take (at + 1) l) (drop (at + 3) l) ∙ omega (arith, length-take-le (at + 1) l (omega arith), length-drop (at + 3) l)
 
-  moved_length : length moved ≡ m - 2
-  moved_length = length-append (take i l) (slice (i + 2) m l) ∙ omega (arith, length-take-le i l (omega arith), length-slice (i + 2) m l f)
+  pub pushed_length : length (pushed at s e l) ≡ length l
+  pushed_length =
+      ap length (sym (append_assoc (take (at + 1) l) (drop (at + 3) l) (s ∷ e ∷ [])))
+      ∙ length-append (take (at + 1) l ++ drop (at + 3) l) (s ∷ e ∷ [])
+      ∙ omega (arith, kept_length)
 
-  taken_out_lem : taken_out i m l ≡ moved ++ drop (m - 2) l
-  unfolding taken_out
-  taken_out_lem = sym (append_assoc (take i l) (slice (i + 2) m l) (drop (m - 2) l))
-
-  pub taken_length : length (taken_out i m l) ≡ length l
-  taken_length = ap length taken_out_lem ∙ length-append moved (drop (m - 2) l) ∙ omega (arith, moved_length, length-drop (m - 2) l)
-
-  pub taken_take : take (m - 2) (taken_out i m l) ≡ moved
-  taken_take = ap (take (m - 2)) taken_out_lem ∙ take_at moved (drop (m - 2) l) (m - 2) moved_length
-
-  taken_drop : drop (m - 2) (taken_out i m l) ≡ drop (m - 2) l
-  taken_drop = ap (drop (m - 2)) taken_out_lem ∙ drop_at moved (drop (m - 2) l) (m - 2) moved_length
-
-  -- and a new pair put behind the rest
-  module _ (s e : ℤ) where
-    abbrev put : List ℤ
-    put = put_pair (taken_out i m l) (m - 2) s e
-
-    room : m - 2 + 2 ≤ length (taken_out i m l)
-    room = omega (arith, taken_length)
-
-    pub pushed_length : length put ≡ length l
-    pushed_length = put_pair_length (taken_out i m l) (m - 2) s e room ∙ taken_length
-
-    pub pushed_take : take m put ≡ moved ++ s ∷ e ∷ []
-    pushed_take =
-        let q : m ≡ m - 2 + 2 = omega arith in
-        ap (λ (k : ℕ). take k put) q ∙ put_pair_take (taken_out i m l) (m - 2) s e room ∙ ap (λ (x : List ℤ). x ++ s ∷ e ∷ []) taken_take
-
-    pub pushed_drop : (j : ℕ) → m ≤ j → drop j put ≡ drop j l
-    pushed_drop j k = put_pair_drop (taken_out i m l) (m - 2) s e room j (omega arith) ∙ drop_later (taken_out i m l) l (m - 2) j taken_drop (omega arith)
+  pub push_is : (c : List ℤ) → c ≡ paste l (at + 1) (drop (at + 3) l) (length l - (at + 3)) → put_pair c (length l - 2) s e ≡ pushed at s e l
+  unfolding put_pair
+  push_is c w =
+      let n : at + 1 + (length l - (at + 3)) ≡ length l - 2 = omega arith in
+      let r = length-drop (at + 3) l in
+      let all : take (length l - (at + 3)) (drop (at + 3) l) ≡ drop (at + 3) l = take_all (length l - (at + 3)) (drop (at + 3) l) (omega arith) in
+      let whole : c ≡ (take (at + 1) l ++ drop (at + 3) l) ++ drop (length l - 2) l =
+      w ∙ rw (n, all) refl in
+      let size : length c ≡ length l = ap length whole ∙ length-append (take (at + 1) l ++ drop (at + 3) l) (drop (length l - 2) l) ∙ omega (arith, kept_length, length-drop (length l - 2) l) in
+      let none : drop (length l - 2 + 2) c ≡ [] = drop_of_length-le c {i = length l - 2 + 2} (omega arith) in
+      let front : take (length l - 2) c ≡ take (at + 1) l ++ drop (at + 3) l = ap (take (length l - 2)) whole ∙ take_at (take (at + 1) l ++ drop (at + 3) l) (drop (length l - 2) l) (length l - 2) kept_length in
+      rw (front, none) (append_assoc (take (at + 1) l) (drop (at + 3) l) (s ∷ e ∷ []))
 
 -- ---- the loop
 
+-- the gaps of the first m numbers, where there are no more
+pub gaps_are : (l : List ℤ) (m : ℕ) → length l ≡ m → take (m - 1 - 1) (drop 1 l) ≡ gaps_of l
+gaps_are l m h = let e : m - 1 - 1 ≡ length l - 2 = omega arith in ap (λ (k : ℕ). take k (drop 1 l)) e
+
 -- t: the ends of the set closed. Before a turn the intervals from k on are left, `left` of them, and as many gaps are to be closed
-pub record Fronts (t : List ℤ) (n m : ℕ) (old new : List ℤ) (k : ℕ) : Type 0 where
+pub record Fronts (t : List ℤ) (n : ℕ) (old front : List ℤ) (k : ℕ) : Type 0 where
   pub first : ℤ
   pub last : ℤ
   pub left : ℕ
   pub fits : n ≤ length old
-  pub some : 2 ≤ m
-  pub even : m % 2 ≡ 0
+  pub some : 2 ≤ length front
+  pub even : length front % 2 ≡ 0
   pub read : k + 2 * left ≡ n
-  pub past : m ≤ k
-  pub long : length new ≡ length old
-  pub front : take m new ≡ first ∷ gaps_of m new ++ last ∷ []
-  pub kept : drop k new ≡ drop k old
-  pub wide : Open (gaps_of m new)
+  pub is : front ≡ first ∷ gaps_of front ++ last ∷ []
+  pub wide : Open (gaps_of front)
   pub next : Open (last ∷ slice k n old)
-  pub so_far : first ∷ thin_by left (gaps_of m new ++ last ∷ slice k n old) ≡ t
+  pub so_far : first ∷ thin_by left (gaps_of front ++ last ∷ slice k n old) ≡ t
 
-module _ {t : List ℤ} {n m : ℕ} {old new : List ℤ} {k : ℕ} (f : Fronts t n m old new k) where
+module _ {t : List ℤ} {n : ℕ} {old front : List ℤ} {k : ℕ} (f : Fronts t n old front k) where
   abbrev gaps : List ℤ
-  gaps = gaps_of m new
+  gaps = gaps_of front
 
-  gaps_size : length gaps ≡ m - 2
-  gaps_size = length-take-le (m - 2) (drop 1 new) (omega (arith, length-drop 1 new, f.fits, f.long, f.past, f.read, f.some))
+  gaps_size : length gaps ≡ length front - 2
+  gaps_size = length-take-le (length front - 2) (drop 1 front) (omega (arith, length-drop 1 front, f.some))
 
-  pub last_is : end_at new (m - 1) ≡ f.last
-  last_is = last_front new m f.first f.last gaps f.front (omega (arith, gaps_size, f.some))
+  pub gaps_even : length (gaps_of front) % 2 ≡ 0
+  gaps_even = rw gaps_size (omega (arith, f.even, f.some))
 
-  module _ (h : k < n) where
+  pub last_is : end_at front (length front - 1) ≡ f.last
+  last_is = last_front front f.first f.last gaps f.is
+
+  module _ (h : k + 2 ≤ n) where
     abbrev s : ℤ
-    s = end_at new k
+    s = end_at old k
 
     abbrev e : ℤ
-    e = end_at new (k + 1)
+    e = end_at old (k + 1)
 
     abbrev rest : List ℤ
     rest = slice (k + 2) n old
 
-    pub pair : k + 2 ≤ n
-    pair = omega (arith, f.read)
-
     next_two : slice k n old ≡ s ∷ e ∷ rest
-    next_two =
-        slice_two k n old pair f.fits
-        ∙ rw (end_later new old k k f.kept (omega arith), end_later new old k (k + 1) f.kept (omega arith))
+    next_two = slice_two k n old h f.fits
 
     opens : Open (f.last ∷ s ∷ e ∷ rest)
     opens = rw next_two at f.next
 
-    pub gap_wide : suc_ℤ (end_at new (m - 1)) <ℤ s
+    pub gap_wide : suc_ℤ (end_at front (length front - 1)) <ℤ end_at old k
     gap_wide = rw last_is opens.0
 
     -- the front with the next interval
     abbrev more : List ℤ
     more = gaps ++ f.last ∷ s ∷ []
 
-    more_length : length more ≡ m
+    more_length : length more ≡ length front
     more_length = length-append gaps (f.last ∷ s ∷ []) ∙ omega (arith, gaps_size, f.some)
 
     shrunk : thin_by f.left (gaps ++ f.last ∷ slice k n old) ≡ thin_by (f.left - 1) (thin more ++ e ∷ rest)
@@ -176,89 +165,115 @@ module _ {t : List ℤ} {n m : ℕ} {old new : List ℤ} {k : ℕ} (f : Fronts t
         (λ i. thin_by (q i) (w i))
         ∙ shrink (f.left - 1) more (e ∷ rest) (rw more_length f.even) (omega (arith, length-slice (k + 2) n old f.fits, f.read))
 
-    fronts_make : (new' p : List ℤ) → thin more ≡ p → length new' ≡ length old → take m new' ≡ f.first ∷ p ++ e ∷ [] → drop (k + 2) new' ≡ drop (k + 2) old → Fronts t n m old new' (k + 2)
-    fronts_make new' p w l u d =
-        let size : length p + 2 ≡ m = sym (ap (λ (x : List ℤ). length x + 2) w) ∙ thin_length more (omega (arith, more_length, f.some)) ∙ more_length in
-        let g = gaps_front new' m f.first e p u size in
-        let o : Open p = rw w at (open_thin more (open_join gaps (f.last ∷ s ∷ []) (rw gaps_size (omega (arith, f.even, f.some))) f.wide (opens.0, tt))) in
-        record {
-          first = f.first;
-          last = e;
-          left = f.left - 1;
-          fits = f.fits;
-          some = f.some;
-          even = f.even;
-          read = omega (arith, f.read);
-          past = omega (arith, f.past);
-          long = l;
-          front = rw g u;
-          kept = d;
-          wide = rw g o;
-          next = opens.1;
-          so_far = rw g (ap (λ (x : List ℤ). f.first ∷ thin_by (f.left - 1) (x ++ e ∷ rest)) (sym w) ∙ ap (λ (x : List ℤ). f.first ∷ x) (sym shrunk) ∙ f.so_far);
-        }
-
-    module _ {at least : ℕ} (l : Least gaps at least) where
-      evenly : length gaps % 2 ≡ 0
-      evenly = rw gaps_size (omega (arith, f.even, f.some))
-
-      -- the next interval's own gap is closed
-      module _ (q : missing (end_at new (m - 1)) s < least) where
-        near_front : take m (set new (m - 1) e) ≡ f.first ∷ gaps ++ e ∷ []
-        near_front =
-            take-set-lt m new (m - 1) e (omega (arith, f.some))
-            ∙ ap (λ (x : List ℤ). set x (m - 1) e) f.front
-            ∙ set_at (f.first ∷ gaps) f.last [] e (m - 1) (omega (arith, gaps_size, f.some))
-
-        pub fronts_near : Fronts t n m old (set new (m - 1) e) (k + 2) × Least (gaps_of m (set new (m - 1) e)) at least
-        fronts_near = (
-          fronts_make (set new (m - 1) e) gaps (thin_new gaps f.last s evenly l (rw last_is at q))
-              (length-set new (m - 1) e ∙ f.long) near_front
-              (drop-set-lt (k + 2) new (m - 1) e (omega (arith, f.past, f.some)) ∙ drop_later new old k (k + 2) f.kept (omega arith)),
-          rw (gaps_front (set new (m - 1) e) m f.first e gaps near_front (omega (arith, gaps_size, f.some))) l,
+    fronts_make : (new p : List ℤ) → thin more ≡ p → new ≡ f.first ∷ p ++ e ∷ [] → Fronts t n old new (k + 2) × (length new ≡ length front)
+    fronts_make new p w u =
+        let size : length p + 2 ≡ length front = sym (ap (λ (x : List ℤ). length x + 2) w) ∙ thin_length more (omega (arith, more_length, f.some)) ∙ more_length in
+        let same : length new ≡ length front = ap length u ∙ omega (arith, size, length-append p (e ∷ [])) in
+        let g = gaps_front new f.first e p u in
+        let o : Open p = rw w at (open_thin more (open_join gaps (f.last ∷ s ∷ []) gaps_even f.wide (opens.0, tt))) in (
+          record {
+            first = f.first;
+            last = e;
+            left = f.left - 1;
+            fits = f.fits;
+            some = omega (arith, same, f.some);
+            even = rw same f.even;
+            read = omega (arith, f.read);
+            is = rw g u;
+            wide = rw g o;
+            next = opens.1;
+            so_far = rw g (ap (λ (x : List ℤ). f.first ∷ thin_by (f.left - 1) (x ++ e ∷ rest)) (sym w) ∙ ap (λ (x : List ℤ). f.first ∷ x) (sym shrunk) ∙ f.so_far);
+          },
+          same,
         )
 
-      -- or the least gap of the front
-      module _ (q : least ≤ missing (end_at new (m - 1)) s) (b : least < no_gap) where
-        pub spot_fits : at + 1 + 2 ≤ m
-        spot_fits = omega (arith, (l.spot b).place, gaps_size)
+    -- the next interval's own gap is closed
+    module _ (u : at_least (suc (missing (end_at front (length front - 1)) (end_at old k))) (gaps_of front) ≡ true) where
+      near_is : set front (length front - 1) e ≡ f.first ∷ gaps ++ e ∷ []
+      near_is =
+          let n : length front - 1 ≡ length (f.first ∷ gaps) = omega (arith, gaps_size, f.some) in
+          ap (λ (x : List ℤ). set x (length front - 1) e) f.is ∙ set_at (f.first ∷ gaps) f.last [] e (length front - 1) (sym n)
 
-        fits_new : m ≤ length new
-        fits_new = omega (arith, f.past, f.read, f.fits, f.long)
+      pub fronts_near : Fronts t n old (set front (length front - 1) (end_at old (k + 1))) (k + 2)
+      fronts_near = (fronts_make (set front (length front - 1) e) gaps (thin_new gaps f.last s gaps_even (rw last_is at u)) near_is).0
 
-        head : take (at + 1) new ≡ f.first ∷ take at gaps
-        head =
-            sym (take-take (at + 1) m new (omega (arith, spot_fits)))
-            ∙ ap (take (at + 1)) f.front
-            ∙ rw add-one (ap (λ (x : List ℤ). f.first ∷ x) (take-append-le at gaps (f.last ∷ []) (omega (arith, (l.spot b).place))))
+      pub gaps_near : gaps_of (set front (length front - 1) (end_at old (k + 1))) ≡ gaps_of front
+      gaps_near = gaps_front (set front (length front - 1) e) f.first e gaps near_is
 
-        tail : slice (at + 1 + 2) m new ≡ drop (at + 2) gaps ++ f.last ∷ []
-        tail =
-            let z : at + 1 + 2 ≡ suc (at + 2) = omega arith in
-            ap (drop (at + 1 + 2)) f.front ∙ rw z (drop-append-le (at + 2) gaps (f.last ∷ []) (l.spot b).place)
+    -- or the least gap of the front
+    module _ {at least : ℕ} (l : Lowest (gaps_of front) at least) (q : least ≤ missing (end_at front (length front - 1)) (end_at old k)) where
+      pub spot_fits : at + 3 ≤ length front
+      spot_fits = omega (arith, l.place, gaps_size)
 
-        far_front : take m (pushed at m s e new) ≡ f.first ∷ ((take at gaps ++ drop (at + 2) gaps) ++ f.last ∷ s ∷ []) ++ e ∷ []
-        far_front = pushed_take new (at + 1) m spot_fits fits_new s e ∙ (λ i. (head i ++ tail i) ++ s ∷ e ∷ []) ∙ simp append_assoc
+      head : take (at + 1) front ≡ f.first ∷ take at gaps
+      head =
+          ap (take (at + 1)) f.is
+          ∙ rw add-one (ap (λ (x : List ℤ). f.first ∷ x) (take-append-le at gaps (f.last ∷ []) (omega (arith, l.place))))
 
-        pub fronts_far : Fronts t n m old (pushed at m s e new) (k + 2)
-        fronts_far =
-            fronts_make (pushed at m s e new) ((take at gaps ++ drop (at + 2) gaps) ++ f.last ∷ s ∷ [])
-            (thin_old gaps f.last s evenly l (rw last_is at q) b)
-            (pushed_length new (at + 1) m spot_fits fits_new s e ∙ f.long)
-            far_front
-            (pushed_drop new (at + 1) m spot_fits fits_new s e (k + 2) (omega (arith, f.past)) ∙ drop_later new old k (k + 2) f.kept (omega arith))
+      tail : drop (at + 3) front ≡ drop (at + 2) gaps ++ f.last ∷ []
+      tail =
+          let z : at + 3 ≡ suc (at + 2) = omega arith in
+          ap (drop (at + 3)) f.is ∙ rw z (drop-append-le (at + 2) gaps (f.last ∷ []) l.place)
 
-        -- no gap of the new front has fewer missing numbers than the one that went
-        pub far_floor : at_least least (gaps_of m (pushed at m s e new)) ≡ true
-        far_floor =
-            let p = (take at gaps ++ drop (at + 2) gaps) ++ f.last ∷ s ∷ [] in
-            let w : thin more ≡ p = thin_old gaps f.last s evenly l (rw last_is at q) b in
-            let size : length p + 2 ≡ m = sym (ap (λ (x : List ℤ). length x + 2) w) ∙ thin_length more (omega (arith, more_length, f.some)) ∙ more_length in
-            let v : at_least least more ≡ true = at_least_append least gaps (f.last ∷ s ∷ []) evenly ∙ and_yes l.under (at_least_one least f.last s (rw last_is at q)) in
-            rw (gaps_front (pushed at m s e new) m f.first e p far_front size) (rw w at (at_least_thin least more v))
+      far_is : pushed at s e front ≡ f.first ∷ ((take at gaps ++ drop (at + 2) gaps) ++ f.last ∷ s ∷ []) ++ e ∷ []
+      far_is = (λ i. head i ++ (tail i ++ s ∷ e ∷ [])) ∙ simp append_assoc
 
-  pub front_fits : m ≤ length new
-  front_fits = omega (arith, f.past, f.read, f.fits, f.long)
+      thinned : thin more ≡ (take at gaps ++ drop (at + 2) gaps) ++ f.last ∷ s ∷ []
+      thinned = thin_old gaps f.last s gaps_even l (rw last_is at q)
+
+      pub fronts_far : Fronts t n old (pushed at (end_at old k) (end_at old (k + 1)) front) (k + 2)
+      fronts_far = (fronts_make (pushed at s e front) ((take at gaps ++ drop (at + 2) gaps) ++ f.last ∷ s ∷ []) thinned far_is).0
+
+      -- no gap of the new front has fewer missing numbers than the one that went
+      pub far_floor : at_least least (gaps_of (pushed at (end_at old k) (end_at old (k + 1)) front)) ≡ true
+      far_floor =
+          let v : at_least least more ≡ true = at_least_append least gaps (f.last ∷ s ∷ []) gaps_even ∙ and_yes l.under (at_least_one least f.last s (rw last_is at q)) in
+          rw (gaps_front (pushed at s e front) f.first e _ far_is) (rw thinned at (at_least_thin least more v))
+
+-- what is known of the least gap of a list
+abbrev pub Known : List ℤ → Option Gap → Type 0
+Known p gap = MatchOption gap (p ≡ []) (λ g. Lowest p g.at g.missing)
+
+fewer : (p : List ℤ) (x : ℕ) (gap : Option Gap) → Known p gap → MatchOption gap (Unit {0}) (λ g. x < g.missing) → at_least (suc x) p ≡ true
+fewer p x None l u = none_fewer (suc x) p l
+fewer p x (Some g) l u = at_least_less p (omega (arith, u)) l.under
+
+-- a turn in which the next interval's own gap has fewer missing numbers
+pub near_turn
+    : {t : List ℤ} {n : ℕ} {old front : List ℤ} {k : ℕ} → Fronts t n old front k → k + 2 ≤ n → (gap : Option Gap) → Known (gaps_of front) gap
+    → MatchOption gap (Unit {0}) (λ g. missing (end_at front (length front - 1)) (end_at old k) < g.missing)
+    → Fronts t n old (set front (length front - 1) (end_at old (k + 1))) (k + 2) × Known (gaps_of (set front (length front - 1) (end_at old (k + 1)))) gap
+near_turn f h gap l u =
+    let v = fewer _ _ gap l u in
+    (fronts_near f h v, rw (gaps_near f h v) l)
+
+-- or in which the least gap of the front has no more
+pub far_turn
+    : {t : List ℤ} {n : ℕ} {old front : List ℤ} {k at least : ℕ} → Fronts t n old front k → k + 2 ≤ n → Lowest (gaps_of front) at least
+    → least ≤ missing (end_at front (length front - 1)) (end_at old k) → (new : List ℤ) → new ≡ pushed at (end_at old k) (end_at old (k + 1)) front
+    → (length new ≡ length front) × Fronts t n old new (k + 2) × (at_least least (gaps_of new) ≡ true)
+far_turn {front = front} {at = at} f h l q new e =
+    rw e (pushed_length front at _ _ (spot_fits f h l q), fronts_far f h l q, far_floor f h l q)
+
+-- the interval of a turn, as it is read behind the front
+pub record Next (old : List ℤ) (n k : ℕ) (pair : List ℤ) : Type 0 where
+  pub start : get_or pair 0 (pos 0) ≡ end_at old k
+  pub end : get_or pair 1 (pos 0) ≡ end_at old (k + 1)
+  pub room : k + 2 ≤ n
+
+pub next_at
+    : (old rest : List ℤ) (n m i : ℕ) (pairs : List (List ℤ)) → rest ≡ drop m old → n ≤ length old → m ≤ n
+    → pairs ≡ first_chunks 2 (length (take (n - m) rest) / 2) (take (n - m) rest) → i < length pairs → length pairs ≡ length (take (n - m) rest) / 2
+    → Next old n (m + 2 * i) (get_or pairs i [])
+next_at old rest n m i pairs e r h p j c =
+    let f = front_pair (n - m) i rest [] (omega (arith, ap length e, length-drop m old)) (omega arith) in
+    let g = ap (λ (x : List (List ℤ)). get_or x i []) p ∙ f.0 in
+    let z : m + (2 * i + 1) ≡ m + 2 * i + 1 = omega arith in
+    record {
+      start = ap (λ (x : List ℤ). get_or x 0 (pos 0)) g ∙ ap (λ (x : List ℤ). end_at x (2 * i)) e ∙ get_or-drop m old (2 * i) (pos 0);
+      end = ap (λ (x : List ℤ). get_or x 1 (pos 0)) g ∙ ap (λ (x : List ℤ). end_at x (2 * i + 1)) e ∙ get_or-drop m old (2 * i + 1) (pos 0) ∙ ap (end_at old) z;
+      room = omega (arith, f.1);
+    }
 
 -- ---- the whole call
 
@@ -295,49 +310,53 @@ module _ (limit n : ℕ) (old : List ℤ) (x : Ends n old) where
       nothing (a ∷ l) = refl
 
   module _ (m : ℕ) (d : m ≡ 2 * limit) (o : 1 ≤ limit) (h : limit < n / 2) where
-    splits : take n old ≡ end_at old 0 ∷ gaps_of m old ++ end_at old (m - 1) ∷ slice m n old
+    abbrev front : List ℤ
+    front = take m old
+
+    front_length : length front ≡ m
+    front_length = length-take-le m old (omega (arith, x.even, x.room))
+
+    splits : take n old ≡ end_at front 0 ∷ gaps_of front ++ end_at front (length front - 1) ∷ slice m n old
     splits =
         sym (take-append-drop m (take n old))
-        ∙ ap (λ (y : List ℤ). y ++ slice m n old) (take-take m n old (omega (arith, x.even)) ∙ front_split old m (omega arith) (omega (arith, x.even, x.room)))
-        ∙ ap (λ (y : List ℤ). end_at old 0 ∷ y) (append_assoc (gaps_of m old) (end_at old (m - 1) ∷ []) (slice m n old))
+        ∙ ap (λ (y : List ℤ). y ++ slice m n old) (take-take m n old (omega (arith, x.even)) ∙ front_split front (omega (arith, front_length)))
+        ∙ ap (λ (y : List ℤ). end_at front 0 ∷ y) (append_assoc (gaps_of front) (end_at front (length front - 1) ∷ []) (slice m n old))
 
-    opens_all : Open (gaps_of m old) × Open (end_at old (m - 1) ∷ slice m n old)
+    opens_all : Open (gaps_of front) × Open (end_at front (length front - 1) ∷ slice m n old)
     opens_all =
         let w : Open (drop 1 (take n old)) = rw whole_flat at (open_flat whole x.normal) in
-        open_split (gaps_of m old) (end_at old (m - 1) ∷ slice m n old)
-        (let z = length-take-le (m - 2) (drop 1 old) (omega (arith, length-drop 1 old, x.room, x.even)) in rw z (omega arith))
+        open_split (gaps_of front) (end_at front (length front - 1) ∷ slice m n old)
+        (let z = length-take-le (length front - 2) (drop 1 front) (omega (arith, length-drop 1 front)) in rw z (omega (arith, front_length)))
         (rw splits at w)
 
-    pub fronts_start : Fronts answer n m old old m
+    pub fronts_start : Fronts answer n old (take m old) m
     unfolding behind
     fronts_start =
         record {
-          first = end_at old 0;
-          last = end_at old (m - 1);
+          first = end_at front 0;
+          last = end_at front (length front - 1);
           left = n / 2 - limit;
           fits = x.room;
-          some = omega arith;
-          even = omega arith;
+          some = omega (arith, front_length);
+          even = omega (arith, front_length);
           read = omega (arith, x.even);
-          past = omega arith;
-          long = refl;
-          front = front_split old m (omega arith) (omega (arith, x.even, x.room));
-          kept = refl;
+          is = front_split front (omega (arith, front_length));
           wide = opens_all.0;
           next = opens_all.1;
           so_far = sym (answer_is ∙ ap (behind (thin_by (n / 2 - limit))) splits);
         }
 
-    pub fronts_done : {new : List ℤ} {k : ℕ} → Fronts answer n m old new k → n ≤ k → Closed limit n old new m
+    pub fronts_done : {front : List ℤ} {k : ℕ} → Fronts answer n old front k → n ≤ k → length front ≡ m → (new : List ℤ) → new ≡ front ++ drop m old → Closed limit n old new m
     unfolding thin_by
-    fronts_done {new} {k} f q =
+    fronts_done {front} {k} f q r new w =
         let z : f.left ≡ 0 = omega (arith, f.read) in
         let y : k ≡ n = omega (arith, f.read) in
         let none : slice k n old ≡ [] = rw y (slice_empty n old) in
-        let same : take m new ≡ answer = f.front ∙ rw (z, none) at f.so_far in
+        let same : front ≡ answer = f.is ∙ rw (z, none) at f.so_far in
+        let p : take m new ≡ front = ap (take m) w ∙ take_at front (drop m old) m r in
         record {
-          count = sym (length-take-le m new (front_fits f)) ∙ ap length same;
-          room = omega (arith, f.past);
-          front = same;
-          rest = drop_later new old k n f.kept (omega arith);
+          count = sym r ∙ ap length same;
+          room = omega (arith, x.even);
+          front = p ∙ same;
+          rest = drop_later new old m n (ap (drop m) w ∙ drop_at front (drop m old) m r) (omega (arith, x.even));
         }

@@ -2,16 +2,16 @@
 use mathlib.Core.Path.{◌≡◌, refl, sym, ap, ◌∙◌}
 use mathlib.Core.Bool.{Bool, true, false, not, ◌&&◌}
 use mathlib.Core.List.{List, [], ◌∷◌, ◌++◌, append_assoc, append-nil}
-use Prim.Native.Nat.{ℕ, suc, ◌+◌, ◌%◌, ◌≤◌, ◌<◌}
+use Prim.Native.Nat.{ℕ, suc, ◌+◌, ◌%◌, ◌≤◌}
 use native.Mathlib.Omega.{arith}
 use lib.Dec.{leb}
-use lib.ListN.{length, take, drop, length-append, drop_of_length-le}
+use lib.ListN.{length, take, drop, length-append}
 use lib.Seq.{take-append-le, drop-append-le, take-append_seam, drop-append-add}
 use lib.IntN.{ℤ}
 use borrow.Author.Tests.{leb-true, leb-false, le-leb, lt-leb}
 use Rattle.laws.proofs.Integers.{by_test, and_both, and_yes, and_left, and_right, clash}
 use Rattle.meaning.specs.Close.{missing}
-use Rattle.closing.specs.Gaps.{at_least, thin, no_gap, Least}
+use Rattle.closing.specs.Gaps.{at_least, thin, Lowest}
 use Rattle.closing.proofs.Thin.{beaten, at_least_less, at_least_append, thin_back, thin_front}
 
 -- one gap beats those with more missing numbers
@@ -37,91 +37,73 @@ pub at_least_one : (g : ℕ) (e s : ℤ) → g ≤ missing e s → at_least g (e
 unfolding at_least
 at_least_one g e s h = let t = le-leb g (missing e s) h in rw t
 
-at_least_not : (g : ℕ) (e s : ℤ) → missing e s < g → at_least g (e ∷ s ∷ []) ≡ false
+-- no gaps: none has fewer
+pub none_fewer : (g : ℕ) (p : List ℤ) → p ≡ [] → at_least g p ≡ true
 unfolding at_least
-at_least_not g e s h = let t = lt-leb g (missing e s) h in rw t
+none_fewer g p h = rw h refl
 
-pub least_none : Least [] 0 no_gap
-unfolding at_least
-least_none = record { under = refl; spot = λ h. absurd (omega arith) }
-
-module _ (p : List ℤ) (e s : ℤ) (even : length p % 2 ≡ 0) {at least : ℕ} (l : Least p at least) where
+module _ (p : List ℤ) (e s : ℤ) (even : length p % 2 ≡ 0) where
   abbrev g : ℕ
   g = missing e s
 
   longer : length (p ++ e ∷ s ∷ []) ≡ length p + 2
   longer = length-append p (e ∷ s ∷ [])
 
-  -- the new gap goes before all others
-  pub least_beats : g < least → beaten p (e ∷ s ∷ []) ≡ true
-  least_beats h = beaten_one p e s ∙ at_least_less p h l.under
+  -- each of the others has more
+  module _ (u : at_least (suc g) p ≡ true) where
+    least_beats : beaten p (e ∷ s ∷ []) ≡ true
+    least_beats = beaten_one p e s ∙ u
 
-  pub thin_new : g < least → thin (p ++ e ∷ s ∷ []) ≡ p
-  unfolding thin at_least
-  thin_new h = thin_back p (e ∷ s ∷ []) even (least_beats h) ∙ append-nil p
+    pub thin_new : thin (p ++ e ∷ s ∷ []) ≡ p
+    unfolding thin at_least
+    thin_new = thin_back p (e ∷ s ∷ []) even least_beats ∙ append-nil p
 
-  pub least_new : g < least → Least (p ++ e ∷ s ∷ []) (length p) g
-  least_new h =
-      record {
-        under = at_least_append g p (e ∷ s ∷ []) even ∙ and_yes (at_least_less p (omega arith) l.under) (at_least_one g e s (omega arith));
-        spot = λ k. record {
-          place = omega (arith, longer);
-          has = at_least_append (suc g) p (e ∷ s ∷ []) even ∙ and_right (at_least (suc g) p) (at_least_not (suc g) e s (omega arith));
-          closes =
-              thin_new h
-              ∙ sym (append-nil p)
-              ∙ λ i. sym (take-append_seam p (e ∷ s ∷ [])) i ++ sym (drop_of_length-le (p ++ e ∷ s ∷ []) {i = length p + 2} (omega (arith, longer))) i;
-        };
-      }
+    -- before gaps that have no fewer missing numbers
+    module _ (r : List ℤ) (f : at_least g r ≡ true) where
+      cut_thin : thin (e ∷ s ∷ r) ≡ r
+      unfolding thin
+      cut_thin = rw f
 
-  -- before gaps that have no fewer missing numbers
-  module _ (r : List ℤ) (h : g < least) (f : at_least g r ≡ true) where
-    cut_thin : thin (e ∷ s ∷ r) ≡ r
-    unfolding thin
-    cut_thin = rw f
+      cut_closes : thin (p ++ e ∷ s ∷ r) ≡ p ++ r
+      cut_closes = thin_back p (e ∷ s ∷ r) even (beaten_more p e s r least_beats) ∙ ap (λ (x : List ℤ). p ++ x) cut_thin
 
-    cut_closes : thin (p ++ e ∷ s ∷ r) ≡ p ++ r
-    cut_closes = thin_back p (e ∷ s ∷ r) even (beaten_more p e s r (least_beats h)) ∙ ap (λ (x : List ℤ). p ++ x) cut_thin
+      cut_under : at_least g (e ∷ s ∷ r) ≡ true
+      unfolding at_least
+      cut_under = and_yes (le-leb g g (omega arith)) f
 
-    cut_under : at_least g (e ∷ s ∷ r) ≡ true
-    unfolding at_least
-    cut_under = and_yes (le-leb g g (omega arith)) f
+      cut_has : at_least (suc g) (e ∷ s ∷ r) ≡ false
+      unfolding at_least
+      cut_has = and_left (at_least (suc g) r) (lt-leb (suc g) g (omega arith))
 
-    cut_has : at_least (suc g) (e ∷ s ∷ r) ≡ false
-    unfolding at_least
-    cut_has = and_left (at_least (suc g) r) (lt-leb (suc g) g (omega arith))
-
-    pub least_cut : Least (p ++ e ∷ s ∷ r) (length p) g
-    least_cut =
-        record {
-          under = at_least_append g p (e ∷ s ∷ r) even ∙ and_yes (at_least_less p (omega arith) l.under) cut_under;
-          spot = λ k. record {
+      pub least_cut : Lowest (p ++ e ∷ s ∷ r) (length p) g
+      least_cut =
+          record {
+            under = at_least_append g p (e ∷ s ∷ r) even ∙ and_yes (at_least_less p (omega arith) u) cut_under;
             place = omega (arith, length-append p (e ∷ s ∷ r));
             has = at_least_append (suc g) p (e ∷ s ∷ r) even ∙ and_right (at_least (suc g) p) cut_has;
-            closes =
-                cut_closes
-                ∙ λ i. sym (take-append_seam p (e ∷ s ∷ r)) i ++ sym (drop-append-add p (e ∷ s ∷ r) 2) i;
-          };
-        }
+            closes = cut_closes ∙ λ i. sym (take-append_seam p (e ∷ s ∷ r)) i ++ sym (drop-append-add p (e ∷ s ∷ r) 2) i;
+          }
 
-  -- the old one does
-  module _ (h : least ≤ g) (k : least < no_gap) where
+    pub least_new : Lowest (p ++ e ∷ s ∷ []) (length p) g
+    unfolding at_least
+    least_new = least_cut [] refl
+
+  -- an earlier one has no more
+  module _ {at least : ℕ} (l : Lowest p at least) (h : least ≤ g) where
     pub thin_old : thin (p ++ e ∷ s ∷ []) ≡ (take at p ++ drop (at + 2) p) ++ e ∷ s ∷ []
     thin_old =
         thin_front p (e ∷ s ∷ []) even
-        (beaten_one p e s ∙ by_test (at_least (suc g) p) (λ t. clash (at_least_less p (omega arith) t) (l.spot k).has) (λ t. t))
-        ∙ ap (λ (x : List ℤ). x ++ e ∷ s ∷ []) (l.spot k).closes
+        (beaten_one p e s ∙ by_test (at_least (suc g) p) (λ t. clash (at_least_less p (omega arith) t) l.has) (λ t. t))
+        ∙ ap (λ (x : List ℤ). x ++ e ∷ s ∷ []) l.closes
 
-  pub least_old : least ≤ g → Least (p ++ e ∷ s ∷ []) at least
-  least_old h =
-      record {
-        under = at_least_append least p (e ∷ s ∷ []) even ∙ and_yes l.under (at_least_one least e s h);
-        spot = λ k. record {
-          place = omega (arith, longer, (l.spot k).place);
-          has = at_least_append (suc least) p (e ∷ s ∷ []) even ∙ and_left (at_least (suc least) (e ∷ s ∷ [])) (l.spot k).has;
+    pub least_old : Lowest (p ++ e ∷ s ∷ []) at least
+    least_old =
+        record {
+          under = at_least_append least p (e ∷ s ∷ []) even ∙ and_yes l.under (at_least_one least e s h);
+          place = omega (arith, longer, l.place);
+          has = at_least_append (suc least) p (e ∷ s ∷ []) even ∙ and_left (at_least (suc least) (e ∷ s ∷ [])) l.has;
           closes =
-              thin_old h k
+              thin_old
               ∙ append_assoc (take at p) (drop (at + 2) p) (e ∷ s ∷ [])
-              ∙ λ i. sym (take-append-le at p (e ∷ s ∷ []) (omega (arith, (l.spot k).place))) i ++ sym (drop-append-le (at + 2) p (e ∷ s ∷ []) (l.spot k).place) i;
-        };
-      }
+              ∙ λ i. sym (take-append-le at p (e ∷ s ∷ []) (omega (arith, l.place))) i ++ sym (drop-append-le (at + 2) p (e ∷ s ∷ []) l.place) i;
+        }

@@ -1,5 +1,5 @@
-pub mod Thin
 pub mod Bridge
+pub mod Fronts
 pub mod Least
 pub mod Search
-pub mod Fronts
+pub mod Thin

@@ -1,9 +1,7 @@
 -- The ends of a set behind its first start, e₁ s₂ e₂ s₃ .. eₙ: a gap is a pair e s, and closing it takes the pair out. What the code of the closing does with them. Assumes nothing.
-use Rattle.std.specs.Prelude.{leb, ℤ, length, take, drop, ◌<ℤ◌, ◌≡◌, Bool, true, false, cond, ◌&&◌, List, [], ◌∷◌, ◌++◌, ℕ, suc, ◌+◌, ◌-◌, ◌%◌, ◌^◌, ◌≤◌, ◌<◌}
+use Rattle.std.specs.Prelude.{leb, ℤ, length, take, drop, ◌<ℤ◌, ◌≡◌, Bool, true, false, cond, ◌&&◌, List, [], ◌∷◌, ◌++◌, ℕ, suc, ◌+◌, ◌-◌, ◌%◌, ◌≤◌}
 use Rattle.std.proofs.Math.IntN.{suc_ℤ}
-use Rattle.std.proofs.Math.Seq.{slice}
 use Rattle.meaning.specs.NumberIntervals.{Normal, flat, intervals}
-use Rattle.sorting.specs.Order.{put_pair}
 use Rattle.meaning.specs.Close.{missing, close}
 
 -- each gap has at least g missing numbers
@@ -28,28 +26,16 @@ Open (e ∷ s ∷ r) = (suc_ℤ e <ℤ s) × Open r
 abbrev pub gaps_of : ℕ → List ℤ → List ℤ
 gaps_of m l = take (m - 2) (drop 1 l)
 
--- more than any gap has
-abbrev pub no_gap : ℕ
-no_gap = 2 ^ 64 - 1
-
--- the lowest gap with the fewest missing numbers stands after `at` numbers
-pub record Spot (p : List ℤ) (at least : ℕ) : Type 0 where
+-- the lowest gap with the fewest missing numbers, `least` of them, stands after `at` numbers
+pub record Lowest (p : List ℤ) (at least : ℕ) : Type 0 where
+  pub under : at_least least p ≡ true
   pub place : at + 2 ≤ length p
   pub has : at_least (suc least) p ≡ false
   pub closes : thin p ≡ take at p ++ drop (at + 2) p
 
--- `least` is the fewest, or `no_gap` where there is none
-pub record Least (p : List ℤ) (at least : ℕ) : Type 0 where
-  pub under : at_least least p ≡ true
-  pub spot : least < no_gap → Spot p at least
-
--- the numbers at i and i + 1 taken out of the first m: those behind them move down, and the last two stay
-unfoldable pub taken_out : ℕ → ℕ → List ℤ → List ℤ
-taken_out i m l = take i l ++ (slice (i + 2) m l ++ drop (m - 2) l)
-
--- the gap after `at` numbers behind the first start taken out of the first m numbers, and the interval [s,e] put behind the rest
-abbrev pub pushed : ℕ → ℕ → ℤ → ℤ → List ℤ → List ℤ
-pushed at m s e l = put_pair (taken_out (at + 1) m l) (m - 2) s e
+-- the gap after `at` numbers behind the first start taken out, and the interval [s,e] put behind the rest
+abbrev pub pushed : ℕ → ℤ → ℤ → List ℤ → List ℤ
+pushed at s e l = take (at + 1) l ++ (drop (at + 3) l ++ s ∷ e ∷ [])
 
 -- the first n numbers are the ends of a normal set
 pub record Ends (n : ℕ) (l : List ℤ) : Type 0 where

@@ -3,20 +3,17 @@
 // closed, or the least gap in front, whose place is known, and only then is the front searched again.
 #![tactic(auto)]
 
-ghost use Rattle.std.specs.Prelude.{◌≡◌, true, ◌+◌, ◌%◌, ◌≤◌, ◌<◌, length, ◌<ℤ◌};
+ghost use Rattle.std.specs.Prelude.{◌≡◌, true, ◌+◌, ◌%◌, ◌≤◌, length, [], MatchOption, ◌<ℤ◌};
 ghost use Rattle.std.proofs.Math.IntN.{suc_ℤ};
 ghost use Rattle.meaning.specs.Close.{missing as missing_of};
-ghost use Rattle.closing.specs.Gaps.{at_least, Open, gaps_of, no_gap, Least, taken_out, pushed, Ends, Closed};
+ghost use Rattle.closing.specs.Gaps.{at_least, Open, Lowest, pushed, Ends, Closed};
 
 use sorting::put_pair;
-
-// More than any gap has.
-const NO_GAP: u64 = 18446744073709551615;
 
 // How many numbers are missing between e and s.
 fn missing(e: i64, s: i64) -> u64
     requires { suc_ℤ e <ℤ s }
-    ensures { (result ≡ missing_of e s) × (result < no_gap) }
+    ensures { result ≡ missing_of e s }
 {
     words::distance(e, s) - 1
 }
@@ -28,55 +25,35 @@ struct Gap {
     missing: u64,
 }
 
-// The lowest gap with the fewest missing numbers of the first m numbers. None has fewer than `floor`, so the search ends at the first that has just as many.
-fn least_gap(work: &[i64], m: usize, floor: u64) -> Gap
-    requires { (2 ≤ m) × (m ≤ length work.now) × (m % 2 ≡ 0) × Open (gaps_of m work.now) × (at_least floor (gaps_of m work.now) ≡ true) × (floor < no_gap) }
-    ensures { Least (gaps_of m work.now) result.at result.missing }
+// The lowest gap with the fewest missing numbers. None has fewer than `floor`, so the search ends at the first that has just as many.
+fn least_gap(gaps: &[i64], floor: u64) -> Option<Gap>
+    requires { (length gaps.now % 2 ≡ 0) × Open gaps.now × (at_least floor gaps.now ≡ true) }
+    ensures { MatchOption result (gaps.now ≡ []) (λ g. Lowest gaps.now g.at g.missing) }
 {
-    let mut at = 0;
-    let mut least = NO_GAP;
-    let mut i = 0;
-    while i + 2 < m {
-        let e = work[i + 1];
-        let s = work[i + 2];
-        let g = missing(e, s);
-        if g == floor {
-            return Gap { at: i, missing: g };
+    let mut least: Option<Gap> = None;
+    for (i, &[e, s]) in gaps.as_chunks::<2>().0.iter().enumerate() {
+        let gap = Gap {
+            at: 2 * i,
+            missing: missing(e, s),
+        };
+        if gap.missing == floor {
+            return Some(gap);
         }
-        if g < least {
-            at = i;
-            least = g;
-            i += 2;
-        } else {
-            i += 2;
+        if least.is_none_or(|least| gap.missing < least.missing) {
+            least = Some(gap);
         }
     }
-    Gap {
-        at: at,
-        missing: least,
-    }
-}
-
-// The numbers at i and i + 1 are taken out of the first m.
-fn take_out(work: &mut [i64], i: usize, m: usize)
-    requires { (i + 2 ≤ m) × (m ≤ length work.old) }
-    ensures { work.new ≡ taken_out i m work.old }
-{
-    let mut j = i;
-    while j + 2 < m {
-        let x = work[j + 2];
-        work[j] = x;
-        j += 1;
-    }
+    least
 }
 
 // The gap at `at` is closed, and the interval [s, e] stands behind the rest.
-fn push(work: &mut [i64], at: usize, m: usize, s: i64, e: i64)
-    requires { (at + 1 + 2 ≤ m) × (m ≤ length work.old) }
-    ensures { work.new ≡ pushed at m s e work.old }
+fn push(front: &mut [i64], at: usize, s: i64, e: i64)
+    requires { at + 3 ≤ length front.old }
+    ensures { front.new ≡ pushed at s e front.old }
 {
-    take_out(work, at + 1, m);
-    put_pair(work, m - 2, s, e);
+    let m = front.len();
+    front.copy_within(at + 3.., at + 1);
+    put_pair(front, m - 2, s, e);
 }
 
 // The first n numbers, the ends of a normal set, are closed to the limit; returns how many numbers that leaves. What stands from there to n is left open.
@@ -88,23 +65,15 @@ pub fn close(work: &mut [i64], n: usize, limit: usize) -> usize
         return n;
     }
     let m = 2 * limit;
-    let gap = least_gap(work, m, 0);
-    let mut at = gap.at;
-    let mut least = gap.missing;
-    let mut k = m;
-    while k < n {
-        let s = work[k];
-        let e = work[k + 1];
-        let z = work[m - 1];
-        if missing(z, s) < least {
-            work[m - 1] = e;
-            k += 2;
-        } else {
-            push(work, at, m, s, e);
-            let next = least_gap(work, m, least);
-            at = next.at;
-            least = next.missing;
-            k += 2;
+    let (front, rest) = work.split_at_mut(m);
+    let mut gap = least_gap(&front[1..m - 1], 0);
+    for &[s, e] in rest[..n - m].as_chunks::<2>().0 {
+        match gap {
+            Some(least) if least.missing <= missing(front[m - 1], s) => {
+                push(front, least.at, s, e);
+                gap = least_gap(&front[1..m - 1], least.missing);
+            }
+            _ => front[m - 1] = e,
         }
     }
     m

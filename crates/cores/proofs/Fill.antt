@@ -1,5 +1,5 @@
 -- A loop over the intervals of a set that hands the unused tail of the work slice to an operation, said of lists alone: one law for every operation. Assumes nothing.
-use mathlib.Core.Path.{◌≡◌, refl, sym, ap, ◌∙◌}
+use mathlib.Core.Path.{◌≡◌, refl, sym, ap, subst, ◌∙◌}
 use mathlib.Core.List.{List, [], ◌∷◌, ◌++◌, append_assoc, append-nil}
 use Prim.Native.Nat.{ℕ, suc, ◌+◌, ◌-◌, ◌*◌, ◌/◌, ◌≤◌, ◌<◌}
 use native.Mathlib.Omega.{arith}
@@ -71,7 +71,7 @@ module _ {f : ℤ → ℤ → List Interval} {room : ℕ} {s old new : List ℤ}
     unfolding each intervals
     next_each = ap (λ (l : List ℤ). each f (intervals l)) (drop_two s i h)
 
-    pub fill_next : {ys : List ℤ} {r : ℕ} → Wrote r (f (end_at s i) (end_at s (i + 1))) ys (mid_of at (length new - at) new) → r ≤ room
+    fill_next : {ys : List ℤ} {r : ℕ} → Wrote r (f (end_at s i) (end_at s (i + 1))) ys (mid_of at (length new - at) new) → r ≤ room
         → Filled f room s old (put_mid at (length new - at) new ys) (i + 2) (at + r)
     fill_next {ys} {r} w g =
         let x = flat (f (end_at s i) (end_at s (i + 1))) in
@@ -91,6 +91,11 @@ module _ {f : ℤ → ℤ → List Interval} {room : ℕ} {s old new : List ℤ}
               ∙ ap (λ (l : List ℤ). take at new ++ l) (sym (flat_append (f (end_at s i) (end_at s (i + 1))) (each f (intervals (drop (i + 2) s)))) ∙ ap flat (sym next_each))
               ∙ t.so_far;
         })
+
+    -- the same at a place by another name
+    pub fill_turn : {ys : List ℤ} {r k : ℕ} → i + 2 ≡ k → Wrote r (f (end_at s i) (end_at s (i + 1))) ys (mid_of at (length new - at) new) → r ≤ room
+        → Filled f room s old (put_mid at (length new - at) new ys) k (at + r)
+    fill_turn {ys} {r} e w g = subst (λ (k : ℕ). Filled f room s old (put_mid at (length new - at) new ys) k (at + r)) e (fill_next w g)
 
   each_none : (l : List ℤ) → length l < 2 → each f (intervals l) ≡ []
   unfolding each intervals

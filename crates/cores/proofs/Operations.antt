@@ -6,9 +6,6 @@ use Prim.Native.Nat.{ℕ, ◌*◌, ◌≤◌}
 use native.Mathlib.Omega.{arith}
 use lib.ListN.{length, replicate}
 use lib.IntN.{ℤ, pos}
-use mir.Syntax.{w64}
-use mir.Val.{SFits, to_z, of_z}
-use mir.Facts.{to_z-of_z}
 use Rattle.meaning.specs.Number.{Op1}
 use Rattle.meaning.specs.Interval.{Interval, Proper, each, neg_pair, abs_pair}
 use Rattle.meaning.specs.NumberIntervals.{Set, rebuild, each_pair, of_bools, set1, set2, flag1, flag2, intervals, normal}
@@ -69,18 +66,9 @@ set_is Mul a b = refl
 set_is Div a b = refl
 set_is Rem a b = refl
 
--- the ends of an interval, read back
-pub proper_read : {a b : ℤ} → SFits w64 a → SFits w64 b → Proper a b → Proper (to_z w64 (of_z w64 a)) (to_z w64 (of_z w64 b))
-proper_read fa fb p = rw (to_z-of_z fa, to_z-of_z fb) p
-
--- the rule of the operation's name is the operation's rule
-module _ {o p : Op} (e : o ≡ p) where
-  pub room_is : {n : ℕ} → 2 * factor_of o ≤ n → 2 * factor_of p ≤ n
-  room_is h = rw e at h
-
-  module _ {a b c d : ℤ} (fa : SFits w64 a) (fb : SFits w64 b) (fc : SFits w64 c) (fd : SFits w64 d) where
-    pub ruled : {r : ℕ} {new old : List ℤ} → Wrote r (rule_of p (to_z w64 (of_z w64 a)) (to_z w64 (of_z w64 b)) (to_z w64 (of_z w64 c)) (to_z w64 (of_z w64 d))) new old → Wrote r (rule_of o a b c d) new old
-    ruled w = rw e (rw (to_z-of_z fa, to_z-of_z fb, to_z-of_z fc, to_z-of_z fd) at w)
+-- the room that an operation asks, by its name
+pub room_is : {o p : Op} → o ≡ p → {n : ℕ} → 2 * factor_of o ≤ n → 2 * factor_of p ≤ n
+room_is e h = rw e at h
 
 -- a pair's results take no more numbers than are kept free for them
 pub pair_few : (o : Op) {s e t f : ℤ} {r : ℕ} {new old : List ℤ} → Wrote r (rule_of o s e t f) new old → Proper s e → Proper t f → r ≤ 2 * factor_of o

@@ -4,7 +4,7 @@
 #![tactic(auto)]
 
 ghost use Rattle.std.specs.Prelude.{◌≡◌, ◌||◌, ◌*◌, ◌/◌, ◌≤◌, length};
-ghost use Rattle.meaning.specs.Interval.{Proper, each};
+ghost use Rattle.meaning.specs.Interval.{each};
 ghost use Rattle.meaning.specs.NumberIntervals.{each_pair, intervals, zero_found};
 ghost use Rattle.meaning.specs.SetCalls.{need2};
 ghost use Rattle.laws.proofs.Members.{AllProper};
@@ -13,12 +13,13 @@ ghost use Rattle.sets.specs.Sets.{Argument};
 ghost use Rattle.cores.specs.Cored.{Cored};
 ghost use Rattle.cores.specs.Operation.{rule_of, factor_of, set_of, flag_of};
 
+use interval::Interval;
 use rule::pair;
 
 pub mod rule;
 
 // The operations whose answer joins the results of all pairs.
-#[derive(Clone, Copy)]
+#[derive(Clone, Copy, Debug, PartialEq, Eq)]
 pub enum Op {
     Neg,
     Abs,
@@ -30,7 +31,7 @@ pub enum Op {
 }
 
 // The operations on two sets whose answer is 0, 1000 or both.
-#[derive(Clone, Copy)]
+#[derive(Clone, Copy, Debug, PartialEq, Eq)]
 pub enum Relation {
     Le,
     Lt,
@@ -40,7 +41,7 @@ pub enum Relation {
 }
 
 // How many numbers the joined set has, and its flag.
-#[derive(Clone, Copy)]
+#[derive(Clone, Copy, Debug, PartialEq, Eq)]
 pub struct Core {
     pub count: usize,
     pub flag: bool,
@@ -50,44 +51,31 @@ pub struct Core {
 fn zero_flag(left: &[i64], flag: bool, right: &[i64]) -> bool
     ensures { result ≡ (flag || zero_found (intervals left.now) (intervals right.now)) }
 {
-    if flag {
-        return true;
-    }
-    if !bools::is_filled(left) {
-        return false;
-    }
-    sets::contains(right, 0)
+    flag || (bools::is_filled(left) && sets::contains(right, 0))
 }
 
 // The flag of an operation: only a division looks for a zero.
+#[tactic(auto, unfolding(meaning::specs::NumberIntervals::flag1, meaning::specs::NumberIntervals::flag2))]
 fn flag_of(op: Op, left: &[i64], flag: bool, right: &[i64]) -> bool
     ensures { result ≡ flag_of op flag (intervals left.now) (intervals right.now) }
 {
     match op {
-        Op::Neg => flag,
-        Op::Abs => flag,
-        Op::Add => flag,
-        Op::Sub => flag,
-        Op::Mul => flag,
-        Op::Div => zero_flag(left, flag, right),
-        Op::Rem => zero_flag(left, flag, right),
+        Op::Neg | Op::Abs | Op::Add | Op::Sub | Op::Mul => flag,
+        Op::Div | Op::Rem => zero_flag(left, flag, right),
     }
 }
 
-// [a, b] with each interval of right, one after the other.
-fn row(op: Op, out: &mut [i64], a: i64, b: i64, right: &[i64]) -> usize
-    requires { (2 * factor_of op * (length right.now / 2) ≤ length out.old) × Proper a b × AllProper (intervals right.now) }
-    ensures { Wrote result (each (rule_of op a b) (intervals right.now)) out.new out.old }
+// left with each interval of right, one after the other.
+fn row(op: Op, out: &mut [i64], left: Interval, right: &[i64]) -> usize
+    requires { (2 * factor_of op * (length right.now / 2) ≤ length out.old) × AllProper (intervals right.now) }
+    ensures { Wrote result (each (rule_of op left.lo left.hi) (intervals right.now)) out.new out.old }
 {
-    let m = right.len();
-    let mut j = 0;
     let mut at = 0;
-    while m - j > 1 {
-        let c = right[j];
-        let d = right[j + 1];
-        let r = pair(op, &mut out[at..], a, b, c, d);
+    for j in 0..right.len() / 2 {
+        let lo = right[2 * j];
+        let hi = right[2 * j + 1];
+        let r = pair(op, &mut out[at..], left, Interval { lo, hi });
         at += r;
-        j += 2;
     }
     at
 }
@@ -97,15 +85,12 @@ fn all(op: Op, work: &mut [i64], left: &[i64], right: &[i64]) -> usize
     requires { (2 * factor_of op * (length right.now / 2) * (length left.now / 2) ≤ length work.old) × AllProper (intervals right.now) × AllProper (intervals left.now) }
     ensures { Wrote result (each_pair (rule_of op) (intervals left.now) (intervals right.now)) work.new work.old }
 {
-    let n = left.len();
-    let mut i = 0;
     let mut at = 0;
-    while n - i > 1 {
-        let a = left[i];
-        let b = left[i + 1];
-        let r = row(op, &mut work[at..], a, b, right);
+    for i in 0..left.len() / 2 {
+        let lo = left[2 * i];
+        let hi = left[2 * i + 1];
+        let r = row(op, &mut work[at..], Interval { lo, hi }, right);
         at += r;
-        i += 2;
     }
     at
 }

@@ -1,50 +1,81 @@
--- Calls that write text into lent bytes, one after the other, each lent what the ones before it left. Assumes nothing.
+-- Calls that write text into lent bytes, one after the other. Assumes nothing.
 use mathlib.Core.Path.{◌≡◌, refl, sym, ap, subst, ◌∙◌}
-use mathlib.Core.List.{List, [], ◌++◌}
-use borrow.Rule.Slice.PartMut.{mid_of, put_mid}
-use Prim.Native.Nat.{ℕ, ◌+◌, ◌-◌, ◌≤◌}
+use mathlib.Core.List.{List, [], ◌++◌, append_assoc}
+use borrow.Rule.Slice.Mut.{set_vals}
+use borrow.Rule.Slice.PartMut.{put_mid}
+use Prim.Native.Nat.{ℕ, ◌+◌, ◌≤◌}
 use native.Mathlib.Omega.{arith}
-use lib.ListN.{length, take, length-append, length-drop}
-use Rattle.laws.proofs.Over.{over_nil, take_over, length_over, tail_next, mid_tail}
-use Rattle.decimal.specs.Written.{Written}
+use lib.ListN.{length, take, drop, length-append, take-append-drop}
+use lib.Seq.{drop-drop}
+use Rattle.std.specs.Borrow.{MutBor}
+use Rattle.meaning.specs.Lists.{over}
+use Rattle.laws.proofs.Over.{over_nil, take_over, drop_over, over_tail, tail_length, tail_take, tail_drop}
+use Rattle.decimal.specs.Written.{Written, Starts, Fits, Appends}
+use Rattle.decimal.specs.declared.Writer.{Writer}
 
 pub written_as : {x y new old : List ℕ} {r : ℕ} → x ≡ y → Written r x new old → Written r y new old
 written_as {new = new} {old = old} {r = r} e w = subst (λ (l : List ℕ). Written r l new old) e w
-
-pub written_none : (old : List ℕ) → Written 0 [] old old
-written_none old = record { count = refl; left = sym (over_nil old); room = omega arith }
 
 -- what stands at the front
 pub written_front : {x new old : List ℕ} {r : ℕ} → Written r x new old → take r new ≡ x
 written_front {x} {old = old} w = (λ i. take (w.count i) (w.left i)) ∙ take_over x old
 
--- room for a text said another way
-pub room_as : {x y : List ℕ} (n : ℕ) → x ≡ y → length y ≤ n → length x ≤ n
-room_as n e h = subst (λ (l : List ℕ). length l ≤ n) (sym e) h
+pub appends_as : {x y : List ℕ} {new old : Writer} → x ≡ y → Appends x new old → Appends y new old
+appends_as {new = new} {old = old} e w = subst (λ (l : List ℕ). Appends l new old) e w
 
--- the first of two has room where both have
-pub first_room : (x y : List ℕ) (n : ℕ) → length (x ++ y) ≤ n → length x ≤ n
-first_room x y n h = omega (arith, length-append x y)
+pub appends_none : (w : Writer) → w.len ≤ length w.room.now → Appends [] w w
+appends_none w h = record { count = omega arith; left = sym (ap (λ (l : List ℕ). take w.len w.room.now ++ l) (over_nil (drop w.len w.room.now)) ∙ take-append-drop w.len w.room.now); room = omega arith; long = refl; same = refl }
 
--- one call, and then another that is lent the rest: there is room for it, and what the two did
-module _ {x l old : List ℕ} {r : ℕ} (w : Written r x l old) where
-  pub same_long : length l ≡ length old
-  same_long = ap length w.left ∙ length_over x old (omega (arith, w.count, w.room))
+-- room for a text said another way, and for the first of two
+pub fits_as : {x y : List ℕ} (at room : ℕ) → x ≡ y → at + length y ≤ room → at + length x ≤ room
+fits_as at room e h = subst (λ (l : List ℕ). at + length l ≤ room) (sym e) h
 
-  pub starts : r ≤ length l
-  starts = omega (arith, same_long, w.room)
+pub fits_first : (x y : List ℕ) (at room : ℕ) → at + length (x ++ y) ≤ room → at + length x ≤ room
+fits_first x y at room h = omega (arith, length-append x y)
 
-  pub room_next : (y : List ℕ) → length (x ++ y) ≤ length old → length y ≤ length (mid_of r (length l - r) l)
-  room_next y h =
-      let e = ap length (mid_tail l r starts) in
-      omega (arith, e, same_long, w.count, length-drop r l, length-append x y)
+-- one call, and then another
+module _ {x : List ℕ} {m o : Writer} (a : Appends x m o) where
+  pub inside : m.len ≤ length m.room.now
+  inside = omega (arith, a.long, a.count, a.room)
 
-  pub written_next : {y m : List ℕ} {k : ℕ} → length (x ++ y) ≤ length old → Written k y m (mid_of r (length l - r) l)
-      → Written (r + k) (x ++ y) (put_mid r (length l - r) l m) old
-  written_next {y} {m} {k} h v =
-      let n = length-append x y in
-      record {
-        count = omega (arith, w.count, v.count, n);
-        left = tail_next x y old l m r w.left w.count (omega (arith, w.count, w.room)) v.left;
-        room = omega (arith, w.count, v.count, n);
-      }
+  pub fits_next : (y : List ℕ) → Fits (x ++ y) o → Fits y m
+  fits_next y h = omega (arith, a.long, a.count, length-append x y)
+
+  before : take m.len m.room.now ≡ take o.len o.room.now ++ x
+  before = (λ i. take (a.count i) (a.left i)) ∙ tail_take o.room.now x o.len a.room
+
+  behind : drop m.len m.room.now ≡ drop (length x) (drop o.len o.room.now)
+  behind =
+      (λ i. drop (a.count i) (a.left i))
+      ∙ tail_drop o.room.now x o.len a.room (o.len + length x) (omega arith)
+      ∙ sym (drop-drop (length x) o.len o.room.now)
+
+  joined : (y l : List ℕ) → x ++ over y (drop (length x) l) ≡ over (x ++ y) l
+  joined y l = sym (λ i. take_over x l i ++ over y (drop_over x l (length x) (omega arith) i)) ∙ over_tail x y l
+
+  pub appends_next : {y : List ℕ} {n : Writer} → Appends y n m → Appends (x ++ y) n o
+  appends_next {y} {n} b = record {
+    count = omega (arith, a.count, b.count, length-append x y);
+    left =
+        b.left
+        ∙ (λ i. before i ++ over y (behind i))
+        ∙ append_assoc (take o.len o.room.now) x (over y (drop (length x) (drop o.len o.room.now)))
+        ∙ ap (λ (l : List ℕ). take o.len o.room.now ++ l) (joined y (drop o.len o.room.now));
+    room = omega (arith, a.long, a.count, b.room, length-append x y);
+    long = b.long ∙ a.long;
+    same = b.same ∙ a.same;
+  }
+
+-- what a writer holds after its first call
+pub first_text : {w v : Writer} {lent : MutBor (List ℕ)} {x : List ℕ} → Starts w lent → Appends x v w → take v.len v.room.now ≡ x
+first_text {w} {x = x} s a = before a ∙ (λ i. take (s.empty i) w.room.now ++ x)
+
+-- a part in the middle that became a text
+put_part : {x m : List ℕ} (l : List ℕ) (at k : ℕ) → m ≡ x → k ≡ length x → put_mid at k l m ≡ take at l ++ over x (drop at l)
+unfolding over
+put_part l at k e f i = take at l ++ (e i ++ drop (f i) (drop at l))
+
+pub appends_put : (w : Writer) {x m : List ℕ} {k end : ℕ} → m ≡ x → k ≡ length x → end ≡ w.len + length x → Fits x w → Appends x (record { room = set_vals (put_mid w.len k w.room.now m) w.room; len = end }) w
+appends_put w {x} {m} {k} e f g h =
+    let left = put_part w.room.now w.len k e f in
+    record { count = g; left = left; room = h; long = ap length left ∙ tail_length w.room.now x w.len h; same = refl }

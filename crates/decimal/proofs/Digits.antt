@@ -24,9 +24,12 @@ module _ (at k m : ℕ) (l : List ℕ) (e : k + 1 ≡ at) (h : k < length l) whe
   at_is = sym e ∙ add-one k
 
   -- the first digit
-  pub last_digit : m < 10 → (d : ℕ) → d ≡ 48 + m → drop k (set l k d) ≡ digits_before at m (drop at l)
+  pub last_digit : m / 10 ≡ 0 → (d : ℕ) → d ≡ 48 + m % 10 → drop k (set l k d) ≡ digits_before at m (drop at l)
   unfolding digits_before
-  last_digit q d p = drop_set l k d h ∙ rw (at_is, lt-ltb m 10 q, p)
+  last_digit q d p =
+      let small : m < 10 = omega arith in
+      let same : m % 10 ≡ m = omega arith in
+      drop_set l k d h ∙ rw (at_is, lt-ltb m 10 small, p, same)
 
   -- another digit, with more before it
   pub next_digit : 10 ≤ m → (d : ℕ) → d ≡ 48 + m % 10 → digits_before k (m / 10) (drop k (set l k d)) ≡ digits_before at m (drop at l)

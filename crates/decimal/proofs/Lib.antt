@@ -1,2 +1,4 @@
 mod Digits
 pub mod Chain
+pub mod Partly
+pub mod Pairs

@@ -1,5 +1,5 @@
 // What C, Rust and Python call, by the prefix `juwenfo_`: each function is one call of a library crate's function, with that function's equations. An answer that is
-// an enum there is a struct of numbers here.
+// an option or a result there is a struct of numbers here.
 #![tactic(auto)]
 
 pub mod interval_sets;

@@ -4,7 +4,7 @@ ghost use Rattle.std.specs.Int.Signed.{le_z, lt_z};
 ghost use Rattle.meaning.specs.Number as point;
 ghost use Rattle.answers.specs.Answers.{maybe_for};
 
-use answers::{Maybe, for_number};
+use answers::Maybe;
 
 // The negative of x; that of MIN is MIN.
 #[unsafe(no_mangle)]
@@ -51,7 +51,7 @@ pub extern "C" fn juwenfo_number_mul(x: i64, y: i64) -> i64
 pub extern "C" fn juwenfo_number_div(x: i64, y: i64) -> Maybe
     ensures { result ≡ maybe_for (point.quotient x y) }
 {
-    for_number(number::div(x, y))
+    number::div(x, y).into()
 }
 
 // The remainder of x by y, with the sign of x; a divisor 0 has none.
@@ -59,7 +59,7 @@ pub extern "C" fn juwenfo_number_div(x: i64, y: i64) -> Maybe
 pub extern "C" fn juwenfo_number_rem(x: i64, y: i64) -> Maybe
     ensures { result ≡ maybe_for (point.remainder x y) }
 {
-    for_number(number::rem(x, y))
+    number::rem(x, y).into()
 }
 
 // The number after x; there is none after MAX.
@@ -67,7 +67,7 @@ pub extern "C" fn juwenfo_number_rem(x: i64, y: i64) -> Maybe
 pub extern "C" fn juwenfo_number_next(x: i64) -> Maybe
     ensures { result ≡ maybe_for (point.next x) }
 {
-    for_number(number::next(x))
+    number::next(x).into()
 }
 
 // The number before x; there is none before MIN.
@@ -75,7 +75,7 @@ pub extern "C" fn juwenfo_number_next(x: i64) -> Maybe
 pub extern "C" fn juwenfo_number_prev(x: i64) -> Maybe
     ensures { result ≡ maybe_for (point.prev x) }
 {
-    for_number(number::prev(x))
+    number::prev(x).into()
 }
 
 // Nonzero is true.

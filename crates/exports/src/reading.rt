@@ -5,7 +5,7 @@ ghost use Rattle.sheet.specs.Answer.{read_verdict};
 ghost use Rattle.sheet.specs.Place.{Placed};
 ghost use Rattle.answers.specs.Answers.{verdict_of};
 
-use answers::{Verdict, for_judgement};
+use answers::Verdict;
 use sheet::Part;
 
 // Where line n stands in the text, without its LF; 0 and 0 for line 0 or a line that has no LF.
@@ -21,5 +21,5 @@ pub extern "C" fn juwenfo_line(text: &[u8], n: usize) -> Part
 pub extern "C" fn juwenfo_judge(text: &[u8]) -> Verdict
     ensures { verdict_of result ≡ read_verdict (read text.now) }
 {
-    for_judgement(sheet::judge_text(text))
+    sheet::judge_text(text).into()
 }

@@ -7,7 +7,7 @@ ghost use Rattle.meaning.specs.Listing.{listing_part};
 ghost use Rattle.meaning.specs.Page.{page};
 ghost use Rattle.answers.specs.Answers.{verdict_of, text_of};
 
-use answers::{Text, Verdict, for_check, for_run, for_text};
+use answers::{Text, Verdict};
 
 // 3 where fewer numbers are lent than there are registers, then the refusals of the text, then the lines in order: 20, 21, 22.
 #[unsafe(no_mangle)]
@@ -16,7 +16,7 @@ pub extern "C" fn juwenfo_run(text: &[u8], lent: &mut [i64]) -> Verdict
     ensures lent_after { lent.new ≡ run_lent text.now lent.old }
     ensures ranged { Ranged text.now lent.old }
 {
-    for_run(run::run(text, lent))
+    run::run(text, lent).into()
 }
 
 // 3 where sets or work is shorter than the check needs, then the refusals of the text, then the lines in order: 20, 21.
@@ -26,7 +26,7 @@ pub extern "C" fn juwenfo_check(text: &[u8], sets: &mut [i64], work: &mut [i64])
     ensures sets_after { sets.new ≡ check_sets text.now sets.old work.old }
     ensures work_after { work.new ≡ check_work text.now sets.old work.old }
 {
-    for_check(sheet_check::check(text, sets, work))
+    sheet_check::check(text, sets, work).into()
 }
 
 // The whole listing of any text at the front of out; 4 if it does not fit, and out is as it was lent.
@@ -35,7 +35,7 @@ pub extern "C" fn juwenfo_listing(text: &[u8], out: &mut [u8]) -> Text
     ensures result_value { text_of result ≡ text_returns (listing_part text.now) out.old }
     ensures out_after { out.new ≡ text_leaves (listing_part text.now) out.old }
 {
-    for_text(listing::listing(text, out))
+    listing::listing(text, out).into()
 }
 
 // The page for the wheelhouse at the front of out; a sheet that does not pass is answered as the check does, then 4 if the page does not fit, and out is as it was lent.
@@ -44,5 +44,5 @@ pub extern "C" fn juwenfo_page(text: &[u8], out: &mut [u8]) -> Text
     ensures result_value { text_of result ≡ text_returns (page text.now) out.old }
     ensures out_after { out.new ≡ text_leaves (page text.now) out.old }
 {
-    for_text(page::page(text, out))
+    page::page(text, out).into()
 }

@@ -1,13 +1,15 @@
 -- What an argument takes lies within the text. Assumes nothing.
-use mathlib.Core.Path.{◌≡◌, sym, subst, ◌∙◌}
+use mathlib.Core.Path.{◌≡◌, sym, subst}
+use mathlib.Core.Bool.{Bool, true, false, cond}
 use mathlib.Core.List.{List}
 use Prim.Native.Nat.{ℕ, zero, suc, ◌+◌, ◌-◌, ◌*◌, ◌≤◌, ◌<◌}
 use Prim.Native.Char.{code}
 use native.Mathlib.Omega.{arith}
-use lib.Dec.{eqb}
-use lib.ListN.{length, get_or, drop}
-use borrow.Author.Tests.{eqb-true}
-use Rattle.meaning.specs.Reading.{Got, got, bad, map_got, and_then, closed, literal, register, Head, is_reg, is1, is2, is_none, head, start, Algebra, on_head, form_with, arg_with, arg}
+use lib.Dec.{eqb, ltb}
+use lib.ListN.{length, get_or, take, drop}
+use borrow.Author.Tests.{eqb-true, ltb-true}
+use Rattle.meaning.specs.Sheet.{registers}
+use Rattle.meaning.specs.Reading.{Got, got, bad, map_got, and_then, closed, digits, number, needless, literal, register_with, register, Head, is_reg, is1, is2, is_none, head, start, Algebra, on_head, form_with, arg_with, arg}
 use Rattle.laws.proofs.Integers.{cond_case}
 use Rattle.literals.proofs.Within.{byte_lt, Within, literal_within, part_le, register_part}
 
@@ -52,20 +54,32 @@ module _ {A : Type 0} (alg : Algebra A) where
       arg_with_within (form_with alg (λ t. arg alg d t)) s (head_within (λ t. arg alg d t) s (start s) (head s))
 
   -- in the terms of a caller that hands on the part from k on
-  pub part_within : (s : List ℕ) (d k : ℕ) {t : List ℕ} {n : ℕ} {a : A} {q : Got A} → t ≡ drop k s → q ≡ arg alg d t → q ≡ got a n → n ≤ length s - k
-  part_within s d k {t} {n} {a} {q} et ea eo = part_le s k et (subst (Within (length t)) (sym ea ∙ eo) (arg_within d t))
+  pub part_within : (s : List ℕ) (d k : ℕ) {t : List ℕ} {n : ℕ} {a : A} → t ≡ drop k s → got a n ≡ arg alg d t → n ≤ length s - k
+  part_within s d k {t} {n} {a} et ea = part_le s k et (subst (Within (length t)) (sym ea) (arg_within d t))
 
 -- ---- room in a word for where a part of a form ends: a slice has under 2^63 bytes, and a form's word takes at most 5
 
 module _ (s : List ℕ) (g : length s * 1 < 9223372036854775808) {k : ℕ} (ek : k ≡ start s) where
-  pub register_room : {t : List ℕ} {r n : ℕ} → t ≡ drop k s → register t ≡ got r n → k + n ≤ 9223372036854775812
-  register_room et e = omega (arith, start_le s, register_part s k et e)
+  pub register_room : {t : List ℕ} {r n : ℕ} → t ≡ drop k s → got r n ≡ register t → k + n ≤ 9223372036854775812
+  register_room et e = omega (arith, start_le s, register_part s k et (sym e))
 
-  pub first_room : {A : Type 0} (alg : Algebra A) (d : ℕ) {t : List ℕ} {n : ℕ} {a : A} {q : Got A} → t ≡ drop k s → q ≡ arg alg d t → q ≡ got a n → k + n ≤ 9223372036854775812
-  first_room alg d et ea eo = omega (arith, start_le s, part_within alg s d k et ea eo)
+  pub first_room : {A : Type 0} (alg : Algebra A) (d : ℕ) {t : List ℕ} {n : ℕ} {a : A} → t ≡ drop k s → got a n ≡ arg alg d t → k + n ≤ 9223372036854775812
+  first_room alg d et ea = omega (arith, start_le s, part_within alg s d k et ea)
 
 -- the space before the second argument lies in the text
 module _ (s : List ℕ) (g : length s * 1 < 9223372036854775808) (j : ℕ) (h : 0 < get_or s j 0) where
-  pub second_room : {A : Type 0} (alg : Algebra A) (d : ℕ) {t : List ℕ} {n : ℕ} {a : A} {q : Got A} → t ≡ drop (j + 1) s → q ≡ arg alg d t → q ≡ got a n
-      → j + 1 + n ≤ 9223372036854775807
-  second_room alg d et ea eo = omega (arith, byte_lt s j h, part_within alg s d (j + 1) et ea eo)
+  pub second_room : {A : Type 0} (alg : Algebra A) (d : ℕ) {t : List ℕ} {n : ℕ} {a : A} → t ≡ drop (j + 1) s → got a n ≡ arg alg d t → j + 1 + n ≤ 9223372036854775807
+  second_room alg d et ea = omega (arith, byte_lt s j h, part_within alg s d (j + 1) et ea)
+
+-- a register that was read is one that there is
+pub register_small : (s : List ℕ) {r n : ℕ} → got r n ≡ register s → r < registers
+unfolding register_with
+register_small s {r} {n} e = go (eqb (digits s) 0) (needless s (digits s)) (number 0 (take (digits s) s)) (digits s) e
+  where
+    go : (a b : Bool) (v i : ℕ) → got r n ≡ cond a bad (cond b bad (cond (ltb v registers) (got v i) bad)) → r < registers
+    go true b v i h = absurd (let z' : ◌≡◌ {A = ℕ} 0 1 = cc in omega arith)
+    go false true v i h = absurd (let z' : ◌≡◌ {A = ℕ} 0 1 = cc in omega arith)
+    go false false v i h =
+        cond_case (λ g. got r n ≡ g → r < registers) (ltb v registers) (got v i) bad
+        (λ t p. let l = ltb-true v registers t in let q : r ≡ v = cc in omega arith)
+        (λ t p. absurd (let z' : ◌≡◌ {A = ℕ} 0 1 = cc in omega arith)) h

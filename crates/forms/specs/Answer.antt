@@ -1,16 +1,14 @@
 -- What each answer of the code says, in the words of `meaning`. Assumes nothing.
-use Rattle.std.specs.Prelude.{Bool, false, ◌||◌}
+use Rattle.std.specs.Prelude.{Bool, false, ◌||◌, Option, Some, None}
 use Rattle.meaning.specs.Number.{Op1, neg, abs, not', Op2, add, sub, mul, div, rem, le, lt, ne, and, or}
 use Rattle.meaning.specs.Sheet.{beyond}
-use Rattle.meaning.specs.Reading.{Got, got, bad, Head, is_reg, is1, is2, is_none, Algebra}
+use Rattle.meaning.specs.Reading.{Head, is_reg, is1, is2, is_none, Algebra}
 use Rattle.forms.specs.declared.Op1.{Op1 as Unary}
 use Rattle.forms.specs.declared.Op1.TheVariants as unary
 use Rattle.forms.specs.declared.Op2.{Op2 as Binary}
 use Rattle.forms.specs.declared.Op2.TheVariants as binary
 use Rattle.forms.specs.declared.Head.{Head as Opening}
 use Rattle.forms.specs.declared.Head.TheVariants as opening
-use Rattle.forms.specs.declared.Took.{Took}
-use Rattle.forms.specs.declared.Took.TheVariants as took
 
 abbrev pub op1_of : Unary → Op1
 op1_of unary.Neg = neg
@@ -29,16 +27,12 @@ op2_of binary.Ne = ne
 op2_of binary.And = and
 op2_of binary.Or = or
 
-abbrev pub head_of : Opening → Head
-head_of opening.Reg = is_reg
-head_of (opening.One o) = is1 (op1_of o)
-head_of (opening.Two o) = is2 (op2_of o)
-head_of opening.None = is_none
+abbrev pub head_of : Option Opening → Head
+head_of (Some opening.Reg) = is_reg
+head_of (Some (opening.One o)) = is1 (op1_of o)
+head_of (Some (opening.Two o)) = is2 (op2_of o)
+head_of None = is_none
 
 -- is some literal beyond MIN..MAX?
 abbrev pub sizes : Algebra Bool
 sizes = record { on_lit = beyond; on_reg = λ r. false; on1 = λ o a. a; on2 = λ o a b. a || b }
-
-abbrev pub got_of : Took → Got Bool
-got_of (took.Bytes n far) = got far n
-got_of took.Bad = bad

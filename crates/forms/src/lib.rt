@@ -1,15 +1,16 @@
-// Reading a form from its bytes (01, "Sheet"): its word, its arguments, its brackets.
+// Reading a form from its bytes: its word, its arguments, its brackets, and what is made of them on the way.
 #![tactic(auto)]
 
-ghost use Rattle.std.specs.Prelude.{◌≡◌, ◌||◌, ◌≤◌};
-ghost use Rattle.meaning.specs.Reading.{closed as closed_at, head, start as start_of, arg as arg_at, form as form_at};
-ghost use Rattle.forms.specs.Packed.{short, long};
-ghost use Rattle.forms.specs.Answer.{head_of, sizes, got_of};
+ghost use Rattle.std.specs.Prelude.{◌≡◌, ◌≤◌, ◌<◌, ◌≢◌, ◌∷◌, [], ℤ, Bool};
+ghost use Rattle.meaning.specs.Sheet.{registers};
+ghost use Rattle.meaning.specs.Reading.{map_got, closed as closed_at, head, start as start_of, arg as arg_at, form as form_at, Algebra as Made};
+ghost use Rattle.literals.specs.Answer.{got_of, held};
+ghost use Rattle.forms.specs.Answer.{op1_of, op2_of, head_of, sizes};
 
-use literals::{Literal, Register, at, read_literal, read_register, tail};
+use literals::{Got, at, read_literal, read_register, tail};
 
 // The operations of one argument that a form names.
-#[derive(Clone, Copy)]
+#[derive(Clone, Copy, Debug, PartialEq, Eq)]
 pub enum Op1 {
     Neg,
     Abs,
@@ -17,7 +18,7 @@ pub enum Op1 {
 }
 
 // The operations of two arguments.
-#[derive(Clone, Copy)]
+#[derive(Clone, Copy, Debug, PartialEq, Eq)]
 pub enum Op2 {
     Add,
     Sub,
@@ -32,184 +33,199 @@ pub enum Op2 {
 }
 
 // How a form begins: its bracket, its word, a space.
-#[derive(Clone, Copy)]
+#[derive(Clone, Copy, Debug, PartialEq, Eq)]
 pub enum Head {
     Reg,
     One(Op1),
     Two(Op2),
-    None,
 }
 
-// How many bytes an argument or a form takes, and whether a literal in it is beyond MIN..MAX.
-#[derive(Clone, Copy)]
-pub enum Took {
-    Bytes(usize, bool),
-    Bad,
+// What is made of a form while it is read: of a literal (none if it is beyond MIN..MAX), of a register, of an operation's arguments.
+pub trait Algebra {
+    type Value: Copy;
+
+    ghost Meaning: { Type 0 };
+
+    ghost meaning: { Self.Value → Meaning };
+
+    ghost algebra: { Self → Made Meaning };
+
+    fn literal(&mut self, z: Option<i64>) -> Self::Value
+        ensures value { (w : ℤ) → z ≡ held w → meaning result ≡ (algebra self.old).on_lit w }
+        ensures same { algebra self.new ≡ algebra self.old };
+
+    fn register(&mut self, r: usize) -> Self::Value
+        requires { r < registers }
+        ensures value { meaning result ≡ (algebra self.old).on_reg r }
+        ensures same { algebra self.new ≡ algebra self.old };
+
+    fn one(&mut self, op: Op1, a: Self::Value) -> Self::Value
+        ensures value { meaning result ≡ (algebra self.old).on1 (op1_of op) (meaning a) }
+        ensures same { algebra self.new ≡ algebra self.old };
+
+    fn two(&mut self, op: Op2, a: Self::Value, b: Self::Value) -> Self::Value
+        ensures value { meaning result ≡ (algebra self.old).on2 (op2_of op) (meaning a) (meaning b) }
+        ensures same { algebra self.new ≡ algebra self.old };
 }
 
-// The words of forms as numbers: their letters, the first one lowest.
-const LE: u32 = (b'l' as u32) + 256 * (b'e' as u32);
-
-const LT: u32 = (b'l' as u32) + 256 * (b't' as u32);
-
-const NE: u32 = (b'n' as u32) + 256 * (b'e' as u32);
-
-const OR: u32 = (b'o' as u32) + 256 * (b'r' as u32);
-
-const REG: u32 = (b'r' as u32) + 256 * (b'e' as u32) + 65536 * (b'g' as u32);
-
-const NEG: u32 = (b'n' as u32) + 256 * (b'e' as u32) + 65536 * (b'g' as u32);
-
-const ABS: u32 = (b'a' as u32) + 256 * (b'b' as u32) + 65536 * (b's' as u32);
-
-const NOT: u32 = (b'n' as u32) + 256 * (b'o' as u32) + 65536 * (b't' as u32);
-
-const ADD: u32 = (b'a' as u32) + 256 * (b'd' as u32) + 65536 * (b'd' as u32);
-
-const SUB: u32 = (b's' as u32) + 256 * (b'u' as u32) + 65536 * (b'b' as u32);
-
-const MUL: u32 = (b'm' as u32) + 256 * (b'u' as u32) + 65536 * (b'l' as u32);
-
-const DIV: u32 = (b'd' as u32) + 256 * (b'i' as u32) + 65536 * (b'v' as u32);
-
-const REM: u32 = (b'r' as u32) + 256 * (b'e' as u32) + 65536 * (b'm' as u32);
-
-const AND: u32 = (b'a' as u32) + 256 * (b'n' as u32) + 65536 * (b'd' as u32);
+// How a form begins.
+pub fn read_head(text: &[u8]) -> Option<Head>
+    ensures { head_of result ≡ head text.now }
+{
+    if at(text, 0) != b'(' {
+        return None;
+    }
+    let a = at(text, 1);
+    let b = at(text, 2);
+    let c = at(text, 3);
+    if c == b' ' {
+        return short_word(a, b);
+    }
+    if at(text, 4) == b' ' {
+        long_word(a, b, c)
+    } else {
+        None
+    }
+}
 
 // The words of two letters.
-#[tactic(auto, unfolding(crate::specs::Packed::short))]
-fn short_word(w: u32) -> Head
-    ensures { head_of result ≡ short w }
+#[tactic(auto, unfolding(meaning::specs::Reading::head, meaning::specs::Reading::begins))]
+fn short_word(a: u8, b: u8) -> Option<Head>
+    ensures { head_of result ≡ head (40 ∷ a ∷ b ∷ 32 ∷ []) }
 {
-    match w {
-        LE => Head::Two(Op2::Le),
-        LT => Head::Two(Op2::Lt),
-        NE => Head::Two(Op2::Ne),
-        OR => Head::Two(Op2::Or),
-        _ => Head::None,
+    match &[a, b] {
+        b"le" => Some(Head::Two(Op2::Le)),
+        b"lt" => Some(Head::Two(Op2::Lt)),
+        b"ne" => Some(Head::Two(Op2::Ne)),
+        b"or" => Some(Head::Two(Op2::Or)),
+        _ => None,
     }
 }
 
 // The words of three letters.
-#[tactic(auto, unfolding(crate::specs::Packed::long))]
-fn long_word(w: u32) -> Head
-    ensures { head_of result ≡ long w }
+#[tactic(auto, unfolding(meaning::specs::Reading::head, meaning::specs::Reading::begins))]
+fn long_word(a: u8, b: u8, c: u8) -> Option<Head>
+    requires { c ≢ 32 }
+    ensures { head_of result ≡ head (40 ∷ a ∷ b ∷ c ∷ 32 ∷ []) }
 {
-    match w {
-        REG => Head::Reg,
-        NEG => Head::One(Op1::Neg),
-        ABS => Head::One(Op1::Abs),
-        NOT => Head::One(Op1::Not),
-        ADD => Head::Two(Op2::Add),
-        SUB => Head::Two(Op2::Sub),
-        MUL => Head::Two(Op2::Mul),
-        DIV => Head::Two(Op2::Div),
-        REM => Head::Two(Op2::Rem),
-        AND => Head::Two(Op2::And),
-        _ => Head::None,
-    }
-}
-
-// A byte, as a number that words are made of.
-fn letter(b: u8) -> u32
-    ensures { result ≡ b }
-{
-    b as u32
-}
-
-// How a form begins.
-pub fn read_head(text: &[u8]) -> Head
-    ensures { head_of result ≡ head text.now }
-{
-    if at(text, 0) != b'(' {
-        return Head::None;
-    }
-    let a = letter(at(text, 1));
-    let b = letter(at(text, 2));
-    let c = at(text, 3);
-    if c == b' ' {
-        return short_word(a + 256 * b);
-    }
-    if at(text, 4) == b' ' {
-        long_word(a + 256 * b + 65536 * letter(c))
-    } else {
-        Head::None
+    match &[a, b, c] {
+        b"reg" => Some(Head::Reg),
+        b"neg" => Some(Head::One(Op1::Neg)),
+        b"abs" => Some(Head::One(Op1::Abs)),
+        b"not" => Some(Head::One(Op1::Not)),
+        b"add" => Some(Head::Two(Op2::Add)),
+        b"sub" => Some(Head::Two(Op2::Sub)),
+        b"mul" => Some(Head::Two(Op2::Mul)),
+        b"div" => Some(Head::Two(Op2::Div)),
+        b"rem" => Some(Head::Two(Op2::Rem)),
+        b"and" => Some(Head::Two(Op2::And)),
+        _ => None,
     }
 }
 
 // Where a form's first argument starts.
+#[tactic(auto, unfolding(meaning::specs::Reading::start))]
 pub fn start(text: &[u8]) -> usize
     ensures { result ≡ start_of text.now }
 {
     if at(text, 3) == b' ' { 4 } else { 5 }
 }
 
-// One of the two, or both.
-pub fn either(a: bool, b: bool) -> bool
-    ensures { result ≡ (a || b) }
-{
-    if a { true } else { b }
-}
-
-// The closing bracket at i.
-fn closed(text: &[u8], i: usize, far: bool) -> Took
+// The closing bracket at i, which ends a value.
+#[tactic(auto, unfolding(meaning::specs::Reading::closed))]
+fn closed<T: Copy>(text: &[u8], i: usize, value: T) -> Option<Got<T>>
     requires { i ≤ 18446744073709551614 }
-    ensures { got_of result ≡ closed_at text.now i far }
+    ensures { got_of result ≡ closed_at text.now i value }
 {
     if at(text, i) == b')' {
-        Took::Bytes(i + 1, far)
+        Some(Got { value, len: i + 1 })
     } else {
-        Took::Bad
+        None
     }
 }
 
 // An argument, with `depth` brackets left: a form if it opens a bracket, else a literal.
 #[cycle(reading)]
-pub fn arg(text: &[u8], depth: usize) -> Took
-    ensures { got_of result ≡ arg_at sizes depth text.now }
+pub fn read_arg<A: Algebra>(text: &[u8], depth: usize, algebra: &mut A) -> Option<Got<A::Value>>
+    ensures value { map_got A.meaning (got_of result) ≡ arg_at (A.algebra algebra.old) depth text.now }
+    ensures same { A.algebra algebra.new ≡ A.algebra algebra.old }
 {
     if at(text, 0) == b'(' {
         if depth == 0 {
-            Took::Bad
+            None
         } else {
-            form(text, depth - 1)
+            read_form(text, depth - 1, algebra)
         }
     } else {
-        match read_literal(text) {
-            Literal::Is(_, far, n) => Took::Bytes(n, far),
-            Literal::Bad => Took::Bad,
-        }
+        let z = read_literal(text)?;
+        Some(Got {
+            value: algebra.literal(z.value),
+            len: z.len,
+        })
     }
 }
 
 // A form, with `depth` brackets left inside its own. The second argument's text starts in the middle of the form's.
 #[cycle(reading)]
-fn form(text: &[u8], depth: usize) -> Took
-    ensures { got_of result ≡ form_at sizes depth text.now }
+fn read_form<A: Algebra>(text: &[u8], depth: usize, algebra: &mut A) -> Option<Got<A::Value>>
+    ensures value { map_got A.meaning (got_of result) ≡ form_at (A.algebra algebra.old) depth text.now }
+    ensures same { A.algebra algebra.new ≡ A.algebra algebra.old }
 {
     let k = start(text);
-    match read_head(text) {
-        Head::Reg => match read_register(tail(text, k)) {
-            Register::Is(_, n) => closed(text, k + n, false),
-            Register::None => Took::Bad,
-        },
-        Head::One(_) => match arg(tail(text, k), depth) {
-            Took::Bytes(n, a) => closed(text, k + n, a),
-            Took::Bad => Took::Bad,
-        },
-        Head::Two(_) => match arg(tail(text, k), depth) {
-            Took::Bytes(n, a) => {
-                if at(text, k + n) != b' ' {
-                    return Took::Bad;
-                }
-                let j = k + n + 1;
-                match arg(&text[j..], depth) {
-                    Took::Bytes(m, b) => closed(text, j + m, either(a, b)),
-                    Took::Bad => Took::Bad,
-                }
+    match read_head(text)? {
+        Head::Reg => {
+            let r = read_register(tail(text, k))?;
+            closed(text, k + r.len, algebra.register(r.value))
+        }
+        Head::One(op) => {
+            let a = read_arg(tail(text, k), depth, algebra)?;
+            closed(text, k + a.len, algebra.one(op, a.value))
+        }
+        Head::Two(op) => {
+            let a = read_arg(tail(text, k), depth, algebra)?;
+            if at(text, k + a.len) != b' ' {
+                return None;
             }
-            Took::Bad => Took::Bad,
-        },
-        Head::None => Took::Bad,
+            let j = k + a.len + 1;
+            let b = read_arg(&text[j..], depth, algebra)?;
+            closed(text, j + b.len, algebra.two(op, a.value, b.value))
+        }
     }
+}
+
+// Tells whether a literal is beyond MIN..MAX.
+#[derive(Clone, Copy)]
+struct Sizes;
+
+impl Algebra for Sizes {
+    type Value = bool;
+
+    ghost Meaning = { Bool };
+
+    ghost meaning = { λ b. b };
+
+    ghost algebra = { λ s. sizes };
+
+    fn literal(&mut self, z: Option<i64>) -> bool {
+        z.is_none()
+    }
+
+    fn register(&mut self, _r: usize) -> bool {
+        false
+    }
+
+    fn one(&mut self, _op: Op1, a: bool) -> bool {
+        a
+    }
+
+    fn two(&mut self, _op: Op2, a: bool, b: bool) -> bool {
+        a || b
+    }
+}
+
+// How many bytes an argument takes, with `depth` brackets left, and whether a literal in it is beyond MIN..MAX.
+pub fn arg(text: &[u8], depth: usize) -> Option<Got<bool>>
+    ensures { got_of result ≡ arg_at sizes depth text.now }
+{
+    read_arg(text, depth, &mut Sizes)
 }

@@ -2,11 +2,22 @@
 use mathlib.Core.Path.{◌≡◌}
 use mathlib.Core.Bool.{true, false}
 use mathlib.Core.List.{◌++◌}
-use lib.IntN.{ℤ, pos, neg_ℤ}
+use lib.IntN.{ℤ, pos, neg_ℤ, ◌-ℤ◌}
 use lib.Signed.{le_z, ◌≤ℤ◌, ◌<ℤ◌}
 use Rattle.meaning.specs.Number.{MIN, MAX, within, eq_z, larger}
 use Rattle.meaning.specs.Interval.{span, only, neg_pair, abs_rest, abs_pair}
+use mir.Syntax.{w64}
+use mir.Val.{SFits}
+use Rattle.std.specs.Int.{int_max}
 use Rattle.laws.proofs.Integers.{zarith, is_within, below_out}
+use Rattle.laws.proofs.Machine.{num, rd, neg_ok, neg_is}
+
+-- a number above MIN, negated in the code
+pub negated : {x : ℤ} → SFits w64 x → MIN <ℤ x → rd (pos 0 -ℤ rd x) ≡ neg_ℤ x
+negated f h = neg_is f (neg_ok f (omega (zarith, num f)))
+
+pub max_larger : (a b : ℤ) → int_max a b ≡ larger b a
+max_larger a b = grind zarith
 
 module _ (s e : ℤ) where
   pub neg_least : s ≡ MIN → e ≡ MIN → only MIN ≡ neg_pair s e

@@ -34,16 +34,8 @@ module _ (s e t f : ℤ) {a b : ℕ} (h : pos a ≡ e -ℤ s) (k : pos b ≡ f -
       let u : far (s +ℤ t) (e +ℤ f) ≡ false = omega (zarith, sub_parts e s, sub_parts f t, add_parts s t, add_parts e f) in n ∙ sym u)
 
 -- the exact ends of the difference are as far apart as those of the sum
-far_difference : (s e t f : ℤ) → far (s +ℤ t) (e +ℤ f) ≡ far (s -ℤ f) (e -ℤ t)
+pub far_difference : (s e t f : ℤ) → far (s +ℤ t) (e +ℤ f) ≡ far (s -ℤ f) (e -ℤ t)
 far_difference s e t f = ap (le_z (pos (2 ^ 64 - 1))) same
   where
     same : (e +ℤ f) -ℤ (s +ℤ t) ≡ (e -ℤ t) -ℤ (s -ℤ f)
     same = omega (zarith, sub_parts (e +ℤ f) (s +ℤ t), sub_parts (e -ℤ t) (s -ℤ f), add_parts s t, add_parts e f, sub_parts s f, sub_parts e t)
-
--- what a call of `long_together` gives
-module _ {s e t f : ℤ} {r : Bool} (a : SFits w64 s) (b : SFits w64 e) (c : SFits w64 t) (d : SFits w64 f) (h : r ≡ far (rd s +ℤ rd t) (rd e +ℤ rd f)) where
-  pub sums_far : r ≡ far (s +ℤ t) (e +ℤ f)
-  sums_far = h ∙ (λ i. far (to_z-of_z a i +ℤ to_z-of_z c i) (to_z-of_z b i +ℤ to_z-of_z d i))
-
-  pub differences_far : r ≡ far (s -ℤ f) (e -ℤ t)
-  differences_far = sums_far ∙ far_difference s e t f

@@ -3,6 +3,18 @@
 // split at the end of the range.
 #![tactic(auto)]
 
-pub mod pieces;
+ghost use Rattle.std.specs.Prelude.{◌≤ℤ◌};
+
+pub mod divisor;
+pub mod parts;
 pub mod sign;
 pub mod sum;
+pub mod without_zero;
+
+// The numbers from lo to hi, both included.
+#[derive(Clone, Copy, Debug, PartialEq, Eq)]
+pub struct Interval {
+    pub lo: i64,
+    pub hi: i64,
+    ghost ordered: { lo ≤ℤ hi },
+}

@@ -1,69 +1,52 @@
 // add and sub of a pair of intervals. The exact ends are as far apart as the two intervals are long together.
-ghost use Rattle.std.specs.Prelude.{◌≡◌, cond, ◌+◌, ◌-◌, ◌^◌, ◌≤◌, leb, length, ◌+ℤ◌};
+ghost use Rattle.std.specs.Prelude.{◌≡◌, cond, ◌≤◌, length, ◌+ℤ◌};
 ghost use Rattle.std.specs.Int.Signed.{le_z};
-ghost use Rattle.meaning.specs.Interval.{Proper, whole, one, two, pieces, unscaled, far, add_pair, sub_pair};
+ghost use Rattle.meaning.specs.Interval.{whole, one, two, pieces, unscaled, far, add_pair, sub_pair};
 ghost use Rattle.slices.specs.Wrote.{Wrote};
 
+use crate::Interval;
 use number::{MAX, MIN, add, sub};
 use slices::{put_one, put_two};
 use words::distance;
 
-// The wrapped ends u and v, split at the end of the range where they are out of order; [MIN,MAX] where all numbers are reached.
-fn put_split(out: &mut [i64], all: bool, u: i64, v: i64) -> usize
-    requires { 4 ≤ length out.old }
-    ensures { Wrote result (pieces unscaled (cond all whole (cond (le_z u v) (one u v) (two u v)))) out.new out.old }
+// Whether the two are 2^64 - 1 or more long together.
+fn reach_all(left: Interval, right: Interval) -> bool
+    ensures { result ≡ far (left.lo +ℤ right.lo) (left.hi +ℤ right.hi) }
 {
-    if all {
+    u64::MAX - distance(left.lo, left.hi) <= distance(right.lo, right.hi)
+}
+
+// The wrapped ends u and v, split at the end of the range where they are out of order; [MIN,MAX] where the two reach all numbers.
+fn put_split(out: &mut [i64], left: Interval, right: Interval, u: i64, v: i64) -> usize
+    requires { 4 ≤ length out.old }
+    ensures { Wrote result (pieces unscaled (cond (far (left.lo +ℤ right.lo) (left.hi +ℤ right.hi)) whole
+        (cond (le_z u v) (one u v) (two u v)))) out.new out.old }
+{
+    if reach_all(left, right) {
         put_one(out, MIN, MAX)
+    } else if u <= v {
+        put_one(out, u, v)
     } else {
-        if u <= v {
-            put_one(out, u, v)
-        } else {
-            put_two(out, u, MAX, MIN, v)
-        }
+        put_two(out, u, MAX, MIN, v)
     }
 }
 
-// Whether the lengths a and b are 2^64 - 1 or more together.
-fn reach_all(a: u64, b: u64) -> bool
-    ensures { result ≡ leb (2 ^ 64 - 1) (a + b) }
+// The sums of the two.
+pub fn add_pair(out: &mut [i64], left: Interval, right: Interval) -> usize
+    requires { 4 ≤ length out.old }
+    ensures { Wrote result (add_pair left.lo left.hi right.lo right.hi) out.new out.old }
 {
-    18446744073709551615 - a <= b
+    let u = add(left.lo, right.lo);
+    let v = add(left.hi, right.hi);
+    put_split(out, left, right, u, v)
 }
 
-// Whether [s,e] and [t,f] are so long together.
-fn long_together(s: i64, e: i64, t: i64, f: i64) -> bool
-    requires first_proper { Proper s e }
-    requires second_proper { Proper t f }
-    ensures { result ≡ far (s +ℤ t) (e +ℤ f) }
+// The differences of left and right.
+pub fn sub_pair(out: &mut [i64], left: Interval, right: Interval) -> usize
+    requires { 4 ≤ length out.old }
+    ensures { Wrote result (sub_pair left.lo left.hi right.lo right.hi) out.new out.old }
 {
-    let a = distance(s, e);
-    let b = distance(t, f);
-    reach_all(a, b)
-}
-
-// [s,e] plus [t,f].
-pub fn add_pair(out: &mut [i64], s: i64, e: i64, t: i64, f: i64) -> usize
-    requires first_proper { Proper s e }
-    requires second_proper { Proper t f }
-    requires room { 4 ≤ length out.old }
-    ensures { Wrote result (add_pair s e t f) out.new out.old }
-{
-    let all = long_together(s, e, t, f);
-    let u = add(s, t);
-    let v = add(e, f);
-    put_split(out, all, u, v)
-}
-
-// [s,e] less [t,f].
-pub fn sub_pair(out: &mut [i64], s: i64, e: i64, t: i64, f: i64) -> usize
-    requires first_proper { Proper s e }
-    requires second_proper { Proper t f }
-    requires room { 4 ≤ length out.old }
-    ensures { Wrote result (sub_pair s e t f) out.new out.old }
-{
-    let all = long_together(s, e, t, f);
-    let u = sub(s, f);
-    let v = sub(e, t);
-    put_split(out, all, u, v)
+    let u = sub(left.lo, right.hi);
+    let v = sub(left.hi, right.lo);
+    put_split(out, left, right, u, v)
 }

@@ -7,7 +7,7 @@ use lib.Signed.{◌≤ℤ◌, ≤ℤ_refl}
 use mathlib.Core.Path.{◌≡◌, refl, sym, ap, ◌∙◌, subst}
 use mathlib.Core.Bool.{Bool, false}
 use mathlib.Core.List.{List}
-use mathlib.Core.Option.{none, some}
+use Rattle.std.specs.Prelude.{None, Some}
 use Prim.Native.Nat.{ℕ, ◌≤◌}
 use Rattle.meaning.specs.Refusals.{zero_divisor, hold_broken}
 use Rattle.meaning.specs.Lists.{All}
@@ -67,13 +67,13 @@ nonzero f a b {x} {y} m n h k e = by_test (eq_z y (pos 0)) (λ p. clash (f.set_i
 
 module _ (d : Demand2) where
   -- no flag: members have a result
-  pub has_result : (o : Op2) (a b : Set) {x y : ℤ} → Normal a → Normal b → x ∈ a → y ∈ b → flag2 o false a b ≡ false → (z : ℤ) × (point2 o x y ≡ some z)
+  pub has_result : (o : Op2) (a b : Set) {x y : ℤ} → Normal a → Normal b → x ∈ a → y ∈ b → flag2 o false a b ≡ false → (z : ℤ) × (point2 o x y ≡ Some z)
   unfolding point2 quotient remainder
   has_result add a b m n h k e = (_, refl)
   has_result sub a b m n h k e = (_, refl)
   has_result mul a b m n h k e = (_, refl)
-  has_result div a b m n h k e = (_, sym (if_no none _ (nonzero d.div_flag a b m n h k e)))
-  has_result rem a b m n h k e = (_, sym (if_no none _ (nonzero d.rem_flag a b m n h k e)))
+  has_result div a b m n h k e = (_, sym (if_no None _ (nonzero d.div_flag a b m n h k e)))
+  has_result rem a b m n h k e = (_, sym (if_no None _ (nonzero d.rem_flag a b m n h k e)))
   has_result le a b m n h k e = (_, refl)
   has_result lt a b m n h k e = (_, refl)
   has_result ne a b m n h k e = (_, refl)
@@ -83,7 +83,7 @@ module _ (d : Demand2) where
   pub result1_in : (o : Op1) (a : Set) {x : ℤ} → Normal a → x ∈ a → point1 o x ∈ set1 o a
   result1_in o a {x} n m = d.holds1 o a (point1 o x) n (record { member = x; member_in = m; gives = refl })
 
-  pub result2_in : (o : Op2) (a b : Set) {x y z : ℤ} → Normal a → Normal b → x ∈ a → y ∈ b → point2 o x y ≡ some z → z ∈ set2 o a b
+  pub result2_in : (o : Op2) (a b : Set) {x y z : ℤ} → Normal a → Normal b → x ∈ a → y ∈ b → point2 o x y ≡ Some z → z ∈ set2 o a b
   result2_in o a b {x} {y} {z} n m h k e = d.holds2 o a b z n m (record { left = x; right = y; left_in = h; right_in = k; gives = e })
 
   module _ (limit : ℕ) (enough : 1 ≤ limit) where
@@ -112,7 +112,7 @@ module _ (d : Demand2) where
         joined : Normal (set2 o a b)
         joined = d.normal2 o a b m.normal n.normal
 
-        filled : Settled limit (set2 o a b) (flag2 o false a b) s → (z : ℤ) × (point2 o m.filled.0 n.filled.0 ≡ some z) → (z : ℤ) × (z ∈ s)
+        filled : Settled limit (set2 o a b) (flag2 o false a b) s → (z : ℤ) × (point2 o m.filled.0 n.filled.0 ≡ Some z) → (z : ℤ) × (z ∈ s)
         filled k z = (z.0, settled_keeps k joined (result2_in o a b m.normal n.normal m.filled.1 n.filled.1 z.1))
 
         go : Settled limit (set2 o a b) (flag2 o false a b) s → SoundSet limit s

@@ -5,7 +5,7 @@ use mathlib.Core.Path.{◌≡◌, refl, sym, ◌∙◌, subst}
 use mathlib.Core.Bool.{Bool, true, false, not, cond, ◌&&◌, ◌||◌}
 use mathlib.Core.Logic.{◌⊎◌, inl, inr, ⊎_elim}
 use mathlib.Core.List.{[], ◌∷◌, ◌++◌}
-use mathlib.Core.Option.{Option, none, some}
+use Rattle.std.specs.Prelude.{Option, None, Some}
 use Rattle.meaning.specs.Number.{ONE, Between, eq_z, smaller, larger, truth, of_bool}
 use Rattle.meaning.specs.Bools.{BoolInterval, not_bools, and_bools, or_bools}
 use Rattle.meaning.specs.Interval.{span, only, Proper, each, meet_pair, cut_to}
@@ -66,20 +66,20 @@ module _ {x y : ℤ} {a b : Set} (mx : x ∈ a) (my : y ∈ b) where
       (λ h. some_pair_lem (λ s e t f. le_z t e) mx my (λ s e t f bx by. omega zarith))
 
 -- the number of a set of just one is its only member
-constant_is : {x : ℤ} (a : Set) (c : ℤ) → x ∈ a → constant a ≡ some c → x ≡ c
+constant_is : {x : ℤ} (a : Set) (c : ℤ) → x ∈ a → constant a ≡ Some c → x ≡ c
 constant_is [] c m e = not_in_none m
 constant_is {x} (i ∷ []) c m e =
     let b = in_span m in
-    cond_case (λ (o : Option ℤ). o ≡ some c → x ≡ c) (eq_z i.lo i.hi) (some i.lo) none
+    cond_case (λ (o : Option ℤ). o ≡ Some c → x ≡ c) (eq_z i.lo i.hi) (Some i.lo) None
     (λ t k. let q : i.lo ≡ c = cc in let r : x ≡ i.lo = omega zarith in r ∙ q)
     (λ t k. let q : x ≡ c = cc in q)
     e
 constant_is {x} (i ∷ j ∷ s) c m e = let q : x ≡ c = cc in q
 
-same_number_lem : {x y : ℤ} (m n : Option ℤ) → ((c : ℤ) → m ≡ some c → x ≡ c) → ((c : ℤ) → n ≡ some c → y ≡ c) → same_number m n ≡ true → x ≡ y
-same_number_lem none n f g e = never (sym e)
-same_number_lem (some c) none f g e = never (sym e)
-same_number_lem (some c) (some d) f g e = f c refl ∙ eq_z_is e ∙ sym (g d refl)
+same_number_lem : {x y : ℤ} (m n : Option ℤ) → ((c : ℤ) → m ≡ Some c → x ≡ c) → ((c : ℤ) → n ≡ Some c → y ≡ c) → same_number m n ≡ true → x ≡ y
+same_number_lem None n f g e = never (sym e)
+same_number_lem (Some c) None f g e = never (sym e)
+same_number_lem (Some c) (Some d) f g e = f c refl ∙ eq_z_is e ∙ sym (g d refl)
 
 -- a number of two intervals is between the larger start and the smaller end
 common : {s e t f z : ℤ} → Between s z e → Between t z f → (larger s t ≤ℤ z) × (z ≤ℤ smaller e f)

@@ -5,7 +5,7 @@ use lib.Signed.{rem_z}
 use mathlib.Core.Path.{◌≡◌, refl, ap, subst}
 use mathlib.Core.Bool.{cond}
 use mathlib.Core.List.{List}
-use mathlib.Core.Option.{Option, none, some}
+use Rattle.std.specs.Prelude.{Option, None, Some}
 use Prim.Native.Nat.{ℕ}
 use native.Mathlib.Omega.{arith}
 use Rattle.meaning.specs.Number.{Between, least_product, greatest_product, eq_z, Op1, neg, abs, not', Op2, add, sub, mul, div, rem, le, lt, ne, and, or, negative, absolute, sum, difference, ratio, quotient, remainder, point1, point2}
@@ -90,13 +90,13 @@ holds1 neg a z n r = subst (λ (w : ℤ). w ∈ rebuild (each neg_pair a)) r.giv
 holds1 abs a z n r = subst (λ (w : ℤ). w ∈ rebuild (each abs_pair a)) r.gives (joined1_holds abs_pair a n r.member_in (λ s e p b. abs_holds p b))
 holds1 not' a z n r = subst (λ (w : ℤ). w ∈ set1 not' a) r.gives (not_holds r.member_in)
 
-same : {x z : ℤ} {s : Set} → x ∈ s → some x ≡ some z → z ∈ s
+same : {x z : ℤ} {s : Set} → x ∈ s → Some x ≡ Some z → z ∈ s
 same {x} {z} {s} m e = let q : x ≡ z = cc in subst (λ (w : ℤ). w ∈ s) q m
 
 -- a result of div or rem has a divisor other than 0
-divided : {z : ℤ} (y v : ℤ) → cond (eq_z y (pos 0)) none (some v) ≡ some z → (y ≡ pos 0 → ⊥) × (some v ≡ some z)
+divided : {z : ℤ} (y v : ℤ) → cond (eq_z y (pos 0)) None (Some v) ≡ Some z → (y ≡ pos 0 → ⊥) × (Some v ≡ Some z)
 divided {z} y v e =
-    cond_case (λ (o : Option ℤ). o ≡ some z → (y ≡ pos 0 → ⊥) × (some v ≡ some z)) (eq_z y (pos 0)) none (some v)
+    cond_case (λ (o : Option ℤ). o ≡ Some z → (y ≡ pos 0 → ⊥) × (Some v ≡ Some z)) (eq_z y (pos 0)) None (Some v)
     (λ t k. let q : ◌≡◌ {A = ℕ} 0 1 = cc in absurd (let w : ⊥ = omega arith in w))
     (λ t k. (eq_z_not t, k))
     e
@@ -136,13 +136,13 @@ only_add : Only2 add
 unfolding set2 point2
 only_add a b z n k m =
     let r = joined2_only add_pair (λ s e t f p q. add_proper s e t f) a b n k sum (λ s e t f p q j. add_only p q j) m in
-    record { left = r.0; right = r.1; left_in = r.2; right_in = r.3; gives = ap some r.4 }
+    record { left = r.0; right = r.1; left_in = r.2; right_in = r.3; gives = ap Some r.4 }
 
 only_sub : Only2 sub
 unfolding set2 point2
 only_sub a b z n k m =
     let r = joined2_only sub_pair (λ s e t f p q. sub_proper s e t f) a b n k difference (λ s e t f p q j. sub_only p q j) m in
-    record { left = r.0; right = r.1; left_in = r.2; right_in = r.3; gives = ap some r.4 }
+    record { left = r.0; right = r.1; left_in = r.2; right_in = r.3; gives = ap Some r.4 }
 
 -- ---- mul: just the members of 01's answer that are in the range of products
 

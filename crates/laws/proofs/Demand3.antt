@@ -7,7 +7,7 @@ use lib.Signed.{≤ℤ_refl}
 use mathlib.Core.Path.{◌≡◌, refl, sym, ap, ◌∙◌, subst}
 use mathlib.Core.Bool.{false, cond}
 use mathlib.Core.List.{List, [], ◌∷◌}
-use mathlib.Core.Option.{some}
+use Rattle.std.specs.Prelude.{Some}
 use Prim.Native.Nat.{ℕ, zero, suc, ◌+◌, ◌<◌, ◌≤◌}
 use native.Mathlib.Nat.{le_of_suc-le-suc}
 use native.Mathlib.Omega.{arith}
@@ -36,33 +36,33 @@ use Rattle.laws.proofs.CheckSets.{span_normal, zero_normal, whole_normal, Settle
 -- ---- each number in its set, and each set normal
 
 pub data Paired : List ℤ → List Set → Type 0 where
-  none : Paired [] []
+  None : Paired [] []
   more : {z : ℤ} {s : Set} {t : List ℤ} {S : List Set} → z ∈ s → Normal s → Paired t S → Paired (z ∷ t) (s ∷ S)
 
 paired_set : {t : List ℤ} {S : List Set} {z : ℤ} {s : Set} → Paired t S → (r : ℕ) → z ∈ s → Normal s → Paired (set t r z) (set S r s)
-paired_set none r m h = none
+paired_set None r m h = None
 paired_set (more m₀ h₀ e) zero m h = more m h e
 paired_set (more m₀ h₀ e) (suc r) m h = more m₀ h₀ (paired_set e r m h)
 
 pub paired_get : {t : List ℤ} {S : List Set} → Paired t S → (r : ℕ) → (get_or t r (pos 0) ∈ at S r) × Normal (at S r)
-paired_get none r = (in_only (pos 0), zero_normal)
+paired_get None r = (in_only (pos 0), zero_normal)
 paired_get (more m h e) zero = (m, h)
 paired_get (more m h e) (suc r) = paired_get e r
 
 paired_member : {t : List ℤ} {S : List Set} → Paired t S → (r : ℕ) → r < length S → get_or t r (pos 0) ∈ get_or S r []
-paired_member none r h = absurd (let x : ⊥ = omega arith in x)
+paired_member None r h = absurd (let x : ⊥ = omega arith in x)
 paired_member (more m n e) zero h = m
 paired_member (more m n e) (suc r) h = paired_member e r (le_of_suc-le-suc h)
 
 -- any numbers, in [MIN,MAX]
 paired_whole : (k : ℕ) (l : List ℤ) → k ≤ length l → All InRange (take k l) → Paired (take k l) (replicate k (span MIN MAX))
-paired_whole zero l h r = none
+paired_whole zero l h r = None
 paired_whole (suc k) [] h r = absurd (let x : ⊥ = omega arith in x)
 paired_whole (suc k) (z ∷ l) h r = more (here r.0) whole_normal (paired_whole k l (le_of_suc-le-suc h) r.1)
 
 -- ---- forms
 
-both_values : (o : Op2) (t : List ℤ) (e f : Form) {x y z : ℤ} → value_of t e ≡ ok x → value_of t f ≡ ok y → point2 o x y ≡ some z → value_of t (form2 o e f) ≡ ok z
+both_values : (o : Op2) (t : List ℤ) (e f : Form) {x y z : ℤ} → value_of t e ≡ ok x → value_of t f ≡ ok y → point2 o x y ≡ Some z → value_of t (form2 o e f) ≡ ok z
 unfolding value_of bind
 both_values o t e f {x} p q r =
     ap (λ (v : Res ℤ). bind v (λ x. bind (value_of t f) (λ y. or_stop zero_divisor (point2 o x y)))) p
@@ -110,7 +110,7 @@ module _ (d : Demand2) (limit : ℕ) where
       let c = bind_ok (set_of limit S g) _ b.2 in
       both b.0 c.0 (form_safe f h w.0 b.1) (form_safe g h w.1 c.1) (settle_ok limit (set2 o b.0 c.0) (flag2 o false b.0 c.0) c.2)
     where
-      pair : (a b : Set) (m : Meets t f a) (n : Meets t g b) → Settled limit (set2 o a b) (flag2 o false a b) s → (z : ℤ) × (point2 o m.num n.num ≡ some z) → Meets t (form2 o f g) s
+      pair : (a b : Set) (m : Meets t f a) (n : Meets t g b) → Settled limit (set2 o a b) (flag2 o false a b) s → (z : ℤ) × (point2 o m.num n.num ≡ Some z) → Meets t (form2 o f g) s
       pair a b m n k z =
           let j = d.normal2 o a b m.normal n.normal in
           meets z.0 (both_values o t f g m.is n.is z.1) (settled_keeps k j (result2_in d o a b m.normal n.normal m.mem n.mem z.1)) (settled_normal k j) refl

@@ -6,7 +6,7 @@ use mathlib.Core.Path.{◌≡◌, refl, sym, ap, ◌∙◌}
 use mathlib.Core.Bool.{Bool, true, false, not, cond, ◌&&◌, ◌||◌}
 use mathlib.Core.Logic.{◌⊎◌, inl, inr, ⊎_elim}
 use mathlib.Core.List.{[], ◌∷◌}
-use mathlib.Core.Option.{none, some}
+use Rattle.std.specs.Prelude.{None, Some}
 use Rattle.meaning.specs.Number.{ONE, eq_z, larger, smaller, truth, of_bool, not', Op2, le, lt, ne, and, or, point1, point2}
 use Rattle.meaning.specs.Bools.{BoolInterval}
 use Rattle.meaning.specs.Interval.{only}
@@ -78,12 +78,12 @@ module _ (a b : Set) (z : ℤ) (na : Normal a) (nb : Normal b) where
 
   -- 0 or 1000 by a test of two members
   by_test_of
-      : {o : Op2} (test : ℤ → ℤ → Bool) → ((c d : ℤ) → point2 o c d ≡ some (of_bool (test c d))) → (m : BoolInterval) → (m.bfalse ≡ true → Told test false)
+      : {o : Op2} (test : ℤ → ℤ → Bool) → ((c d : ℤ) → point2 o c d ≡ Some (of_bool (test c d))) → (m : BoolInterval) → (m.bfalse ≡ true → Told test false)
       → (m.btrue ≡ true → Told test true) → z ∈ of_bools m → Result2 o a b z
   by_test_of {o} test k m f g i = ⊎_elim (λ h. result (f h.0) h.1) (λ h. result (g h.0) h.1) (bools_in m i)
     where
       result : {v : Bool} → Told test v → of_bool v ≡ z → Result2 o a b z
-      result t e = record { left = t.left; right = t.right; left_in = t.left_in; right_in = t.right_in; gives = k t.left t.right ∙ ap some (ap of_bool t.says ∙ e) }
+      result t e = record { left = t.left; right = t.right; left_in = t.left_in; right_in = t.right_in; gives = k t.left t.right ∙ ap Some (ap of_bool t.says ∙ e) }
 
   le_only : z ∈ set2 le a b → Result2 le a b z
   unfolding set2 le_bools point2
@@ -140,9 +140,9 @@ only_not a z n m =
 
 module _ (a b : Set) (z : ℤ) (na : Normal a) (nb : Normal b) {x y : ℤ} (mx : x ∈ a) (my : y ∈ b) where
   -- the point result of two members whose truth is known
-  by_truth : {o : Op2} {u v : ℤ} {p q : Bool} (g : Bool → Bool → Bool) → ((c d : ℤ) → point2 o c d ≡ some (of_bool (g (truth c) (truth d))))
+  by_truth : {o : Op2} {u v : ℤ} {p q : Bool} (g : Bool → Bool → Bool) → ((c d : ℤ) → point2 o c d ≡ Some (of_bool (g (truth c) (truth d))))
       → u ∈ a → v ∈ b → truth u ≡ p → truth v ≡ q → of_bool (g p q) ≡ z → Result2 o a b z
-  by_truth {u} {v} g k mu mv e f h = record { left = u; right = v; left_in = mu; right_in = mv; gives = k u v ∙ (λ i. some (of_bool (g (e i) (f i)))) ∙ ap some h }
+  by_truth {u} {v} g k mu mv e f h = record { left = u; right = v; left_in = mu; right_in = mv; gives = k u v ∙ (λ i. Some (of_bool (g (e i) (f i)))) ∙ ap Some h }
 
   pub and_only : z ∈ set2 and a b → Result2 and a b z
   unfolding set2 as_bools point2
@@ -179,14 +179,14 @@ module _ (a b : Set) (z : ℤ) (na : Normal a) (nb : Normal b) {x y : ℤ} (mx :
       or_true false = refl
 
   -- x is the only member, or there is another one
-  other : (c : Set) {w : ℤ} → Normal c → w ∈ c → (constant c ≡ some w) ⊎ ((v : ℤ) × ((v ∈ c) × (eq_z v w ≡ false)))
+  other : (c : Set) {w : ℤ} → Normal c → w ∈ c → (constant c ≡ Some w) ⊎ ((v : ℤ) × ((v ∈ c) × (eq_z v w ≡ false)))
   other [] n m = not_in_none m
   other (i ∷ []) {w} n m =
       let q = in_span m in
       let lo_in : i.lo ∈ (i ∷ []) = here (between (≤ℤ_refl i.lo) n.0.ordered) in
       let hi_in : i.hi ∈ (i ∷ []) = here (between n.0.ordered (≤ℤ_refl i.hi)) in
       by_test (eq_z i.lo i.hi)
-      (λ t. let k : i.lo ≡ w = omega (zarith, t, q.above, q.below) in inl (sym (if_yes (some i.lo) none t) ∙ ap some k))
+      (λ t. let k : i.lo ≡ w = omega (zarith, t, q.above, q.below) in inl (sym (if_yes (Some i.lo) None t) ∙ ap Some k))
       (λ t. by_test (eq_z i.lo w) (λ u. let k : eq_z i.hi w ≡ false = omega (zarith, t, u) in inr (i.hi, (hi_in, k))) (λ u. inr (i.lo, (lo_in, u))))
   other (i ∷ j ∷ s) {w} n m =
       by_test (eq_z i.lo w)
@@ -196,7 +196,7 @@ module _ (a b : Set) (z : ℤ) (na : Normal a) (nb : Normal b) {x y : ℤ} (mx :
 
   differing : {u v : ℤ} → u ∈ a → v ∈ b → eq_z u v ≡ false → of_bool true ≡ z → Result2 ne a b z
   unfolding point2
-  differing {u} {v} mu mv e h = record { left = u; right = v; left_in = mu; right_in = mv; gives = ap some (ap (λ (t : Bool). of_bool (not t)) e ∙ h) }
+  differing {u} {v} mu mv e h = record { left = u; right = v; left_in = mu; right_in = mv; gives = ap Some (ap (λ (t : Bool). of_bool (not t)) e ∙ h) }
 
   pub ne_only : z ∈ set2 ne a b → Result2 ne a b z
   unfolding set2 ne_bools point2
@@ -215,7 +215,7 @@ module _ (a b : Set) (z : ℤ) (na : Normal a) (nb : Normal b) {x y : ℤ} (mx :
             right = w;
             left_in = l.inside w (omega (zarith, g.0)) (omega (zarith, r.passes, k.0));
             right_in = r.inside w (omega (zarith, g.1)) (omega (zarith, r.passes, k.1));
-            gives = ap some (ap (λ (t : Bool). of_bool (not t)) same ∙ h.1);
+            gives = ap Some (ap (λ (t : Bool). of_bool (not t)) same ∙ h.1);
           }
 
       apart' : ((not (share a b) || not (same_number (constant a) (constant b))) ≡ true) × (of_bool true ≡ z) → Result2 ne a b z

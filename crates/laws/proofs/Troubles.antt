@@ -4,7 +4,7 @@ use lib.IntN.{ℤ, pos}
 use lib.ListN.{length, get_or, set}
 use mathlib.Core.Path.{◌≡◌, refl, sym, ap, ◌∙◌, subst}
 use mathlib.Core.Bool.{Bool, true, false, cond, ◌||◌}
-use mathlib.Core.Option.{Option, none, some}
+use Rattle.std.specs.Prelude.{Option, None, Some}
 use mathlib.Core.List.{List, [], ◌∷◌, ◌++◌}
 use Prim.Native.Nat.{ℕ, suc}
 use native.Mathlib.Omega.{arith}
@@ -164,8 +164,8 @@ check_numbered limit ls = work_numbered check_finds (check_line limit) (check_li
 
 -- a put or a hold stops it with what the check finds
 or_stop_numbered : {A : Type 0} (m : Option A) → Checkable (or_stop zero_divisor m)
-or_stop_numbered none = refl
-or_stop_numbered (some z) = tt
+or_stop_numbered None = refl
+or_stop_numbered (Some z) = tt
 
 value_numbered : (s : List ℤ) (e : Form) → Checkable (value_of s e)
 unfolding value_of

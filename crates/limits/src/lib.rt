@@ -1,4 +1,4 @@
-// The sizes that document 01 fixes, one name each.
+// The sizes of sheets, of sets and of the slices that calls are lent, one name each.
 #![tactic(auto)]
 
 // Registers of a sheet.

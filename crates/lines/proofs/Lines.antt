@@ -1,136 +1,154 @@
 -- Laws of a line's parts. Assumes nothing.
 use mathlib.Core.Path.{◌≡◌, refl, sym, ap, ◌∙◌}
-use mathlib.Core.Bool.{Bool, true, false, cond, ◌||◌}
-use mathlib.Core.List.{List}
-use Prim.Native.Nat.{ℕ, ◌+◌, ◌≤◌, ◌<◌}
+use mathlib.Core.Bool.{Bool, true, false, cond, ◌||◌, ◌&&◌}
+use mathlib.Core.List.{List, [], ◌∷◌}
+use lib.Pointwise.{pointwise}
+use Prim.Native.Nat.{ℕ, suc, ◌+◌, ◌-◌, ◌<◌}
 use Prim.Native.Char.{code}
 use native.Mathlib.Omega.{arith}
-use native.Mathlib.Numerals.{add-one}
+use native.Mathlib.Nat.{add_assoc, add-zero}
 use lib.Dec.{eqb}
 use lib.IntN.{ℤ}
 use lib.Signed.{lt_z}
-use lib.ListN.{length, get_or, drop, drop_of_length-le}
-use lib.Seq.{drop-cons}
-use mir.Syntax.{w64}
-use mir.Val.{SFits}
-use mir.Facts.{to_z-of_z}
-use borrow.Author.Tests.{eq-eqb, ne_eqb}
-use Rattle.meaning.specs.Bytes.{bytes}
+use lib.ListN.{length, get_or, take, drop, length-drop}
+use lib.Seq.{drop-drop, get_or-drop}
+use borrow.Author.Tests.{eq-eqb, ne_eqb, eqb-true, eqb-false}
+use Rattle.std.specs.Prelude.{Option, Some, None, Result, Ok, Err}
 use Rattle.meaning.specs.Outcome.{Res, ok, stop}
 use Rattle.meaning.specs.Sheet.{beyond, Form, put, hold, Line, act, far_form, far_act, far_line, crossed_act, crossed_line}
 use Rattle.meaning.specs.Reading.{Got, got, bad, map_got, and_then, byte, closed, begins, literal, register, arg, tree, on_register, bounds, value, act_of, line_of, whole_line, judged, read_line}
-use Rattle.laws.proofs.Integers.{by_test, cond_case}
-use Rattle.laws.proofs.Fusion.{map_cond, map_any, map_closed, far_arg}
-use Rattle.laws.proofs.Machine.{rd, lt_z_is}
-use Rattle.literals.specs.Answer.{kept, literal_of}
-use Rattle.literals.specs.declared.Literal.{Literal}
-use Rattle.literals.specs.declared.Literal.TheVariants as literal
-use Rattle.literals.proofs.Literals.{literal_is, literal_bad, kept_read}
+use Rattle.laws.proofs.Integers.{by_test}
+use Rattle.refusals.specs.declared.Cause.{Cause}
+use Rattle.refusals.specs.declared.Cause.TheVariants.{Ungrammatical, FarLiteral}
+use Rattle.interval.specs.declared.Interval.{Interval}
+use Rattle.literals.specs.Answer.{got_of, held as value_of}
+use Rattle.literals.specs.declared.Got.{Got as Found}
+use Rattle.literals.proofs.Literals.{found, not_found}
+use Rattle.literals.proofs.Within.{byte_lt}
 use Rattle.forms.specs.Answer.{sizes}
-use Rattle.lines.specs.Answer.{ends, ranged, range_line, body, put_of, line_from}
-use Rattle.lines.specs.declared.Kind.{Kind}
-use Rattle.lines.specs.declared.Kind.TheVariants as kind
-use Rattle.lines.specs.declared.LineForm.{LineForm}
-use Rattle.lines.specs.declared.LineForm.TheVariants as line
+use Rattle.lines.specs.Answer.{ends, ranged, range_from, put_at, put_of, line_from}
+use Rattle.lines.specs.declared.Line.TheVariants.{Put}
+use Rattle.meaning.specs.Bytes.{bytes}
+use Rattle.laws.proofs.Integers.{cond_case}
+use Rattle.laws.proofs.Fusion.{map_cond, map_any, map_closed, far_arg}
 
--- the word w and the text s, both from i on
-module _ (w s : List ℕ) (i : ℕ) (h : i < length w) where
-  pub begins_end : length s ≤ i → begins (drop i w) (drop i s) ≡ false
-  unfolding begins
-  begins_end l = rw (drop-cons w i 0 h, drop_of_length-le s l)
+-- ---- the end of a line
 
-  pub begins_not : i < length s → (get_or s i 0 ≡ get_or w i 0 → ⊥) → begins (drop i w) (drop i s) ≡ false
-  unfolding begins
-  begins_not l e = rw (drop-cons w i 0 h, drop-cons s i 0 l, ne_eqb _ _ e)
+ends_only : (s : List ℕ) → ends s 0 ≡ pointwise eqb s (code ")" ∷ [])
+unfolding ends
+ends_only [] = refl
+ends_only (b ∷ []) = refl
+ends_only (b ∷ c ∷ s) = ap (λ x. eqb b 41 && x) (ne_eqb 1 (suc (suc (length s))) (λ e. absurd (omega arith)))
 
-  pub begins_more : i < length s → get_or s i 0 ≡ get_or w i 0 → begins (drop (i + 1) w) (drop (i + 1) s) ≡ begins (drop i w) (drop i s)
-  unfolding begins
-  begins_more l e = rw (drop-cons w i 0 h, drop-cons s i 0 l, eq-eqb _ _ e, add-one i)
+pub ends_part : (s : List ℕ) (i m : ℕ) {t : List ℕ} → t ≡ drop i s → ends t m ≡ ends s (i + m)
+unfolding ends
+ends_part s i m {t} e = rw (e, get_or-drop i s m 0) (ap (λ b. eqb (get_or s (i + m) 0) (code ")") && b) (go (eqb (m + 1) (length (drop i s))) refl))
+  where
+    go : (b : Bool) → eqb (m + 1) (length (drop i s)) ≡ b → b ≡ eqb (i + m + 1) (length s)
+    go true h = let n = eqb-true _ _ h in let k : i + m + 1 ≡ length s = omega (arith, length-drop i s) in sym (eq-eqb _ _ k)
+    go false h = let n = eqb-false _ _ h in let k : i + m + 1 ≡ length s → ⊥ = λ q. n (omega (arith, length-drop i s, q)) in sym (ne_eqb _ _ k)
 
-pub begins_all : (w s : List ℕ) (i : ℕ) → length w ≤ i → begins (drop i w) (drop i s) ≡ true
-unfolding begins
-begins_all w s i h = rw (drop_of_length-le w h)
+ends_first : (s : List ℕ) (n : ℕ) → ends s n ≡ pointwise eqb (drop n s) (code ")" ∷ [])
+ends_first s n = ap (ends s) (sym (add-zero n)) ∙ sym (ends_part s n 0 refl) ∙ ends_only (drop n s)
 
--- ---- (in R LO HI) and (hold R LO HI)
+-- the test that finds it
+pub ends_by : (s : List ℕ) (n : ℕ) {t b : List ℕ} → t ≡ drop n s → b ≡ code ")" ∷ [] → ends s n ≡ pointwise eqb t b
+ends_by s n {t} {b} et eb = ends_first s n ∙ sym (λ k. pointwise eqb (et k) (eb k))
 
--- what each arm of `range_line` makes
-module _ (held : Bool) (r : ℕ) (lo hi : ℤ) {far : Bool} where
-  pub range_far : far ≡ true → line.Refused 7 ≡ range_line held r lo hi far
-  unfolding range_line
-  range_far e = rw e
-
-  module _ (e : far ≡ false) (f : SFits w64 lo) (g : SFits w64 hi) where
-    pub range_crossed : lt_z (rd hi) (rd lo) ≡ true → line.Refused 6 ≡ range_line held r lo hi far
-    unfolding range_line
-    range_crossed h = rw (e, sym (lt_z_is g f) ∙ h)
-
-    module _ (h : lt_z (rd hi) (rd lo) ≡ false) where
-      pub range_hold : held ≡ true → line.Hold r (rd lo) (rd hi) ≡ range_line held r lo hi far
-      unfolding range_line
-      range_hold k = rw (e, sym (lt_z_is g f) ∙ h, k, to_z-of_z f, to_z-of_z g)
-
-      pub range_in : held ≡ false → line.In r (rd lo) (rd hi) ≡ range_line held r lo hi far
-      unfolding range_line
-      range_in k = rw (e, sym (lt_z_is g f) ∙ h, k, to_z-of_z f, to_z-of_z g)
-
--- the closing bracket of a whole line
 whole_ends : (s : List ℕ) (i : ℕ) (l : Line) → whole_line s (closed s i l) ≡ cond (ends s i) (ok l) (stop 6)
 unfolding whole_line closed ends
 whole_ends s i l = by_test (eqb (get_or s i 0) (code ")")) (λ e. rw e) (λ e. rw e)
 
--- such a line judged by its literals
-range_judged : (s : List ℕ) (held : Bool) (r : ℕ) (z z' : ℤ) → line_from s (range_line held r (kept z) (kept z') (beyond z || beyond z')) ≡ judged (ok (ranged held r z z'))
-unfolding range_line judged kept far_line far_act crossed_line crossed_act
-range_judged s held r z z' = go held (beyond z) refl (beyond z') refl (lt_z z' z) refl
-  where
-    go : (held a : Bool) → beyond z ≡ a → (b : Bool) → beyond z' ≡ b → (x : Bool) → lt_z z' z ≡ x → line_from s (range_line held r (kept z) (kept z') (beyond z || beyond z')) ≡ judged (ok (ranged held r z z'))
-    go true true ea b eb x ex = rw ea
-    go false true ea b eb x ex = rw ea
-    go true false ea true eb x ex = rw (ea, eb)
-    go false false ea true eb x ex = rw (ea, eb)
-    go true false ea false eb true ex = rw (ea, eb, ex)
-    go false false ea false eb true ex = rw (ea, eb, ex)
-    go true false ea false eb false ex = rw (ea, eb, ex)
-    go false false ea false eb false ex = rw (ea, eb, ex)
+-- ---- (in R LO HI) and (hold R LO HI)
+
+judged_range : (held : Bool) (r : ℕ) (z z' : ℤ) → judged (ok (ranged held r z z')) ≡ cond (beyond z || beyond z') (stop 7) (cond (lt_z z' z) (stop 6) (ok (ranged held r z z')))
+unfolding judged far_line far_act crossed_line crossed_act
+judged_range true r z z' = refl
+judged_range false r z z' = refl
+
+none_far : (z : ℤ) → value_of z ≡ None → beyond z ≡ true
+unfolding value_of
+none_far z e = by_test (beyond z) (λ h. h) (λ h. let q : ◌≡◌ {A = Option ℤ} (Some z) None = rw h at e in absurd (let x : ⊥ = cc in x))
+
+some_near : (z : ℤ) {l : ℤ} → value_of z ≡ Some l → (beyond z ≡ false) × (z ≡ l)
+unfolding value_of
+some_near z {l} e = by_test (beyond z)
+    (λ h. let q : ◌≡◌ {A = Option ℤ} None (Some l) = rw h at e in absurd (let x : ⊥ = cc in x))
+    (λ h. let q : ◌≡◌ {A = Option ℤ} (Some z) (Some l) = rw h at e in (h, cc))
+
+or_yes : (a : Bool) → (a || true) ≡ true
+or_yes true = refl
+or_yes false = refl
+
+-- what the answer x says of a line with a range from i on
+abbrev Judged : List ℕ → Bool → ℕ → ℕ → Result Interval Cause → Type 0
+Judged s held r i x = range_from held r x ≡ judged (whole_line s (bounds (ranged held r) s i))
+
+-- the text from i on: what stands at n in it, and what is left of it behind n
+module _ (s : List ℕ) (i n : ℕ) {t : List ℕ} (et : t ≡ drop i s) where
+  pub at_part : get_or s (i + n) 0 ≡ get_or t n 0
+  at_part = sym (ap (λ (u : List ℕ). get_or u n 0) et ∙ get_or-drop i s n 0)
+
+  pub left_part : {u : List ℕ} → u ≡ drop (n + 1) t → drop (i + n + 1) s ≡ u
+  left_part {u} eu = ap (λ (k : ℕ). drop k s) (add_assoc i n 1) ∙ sym (drop-drop (n + 1) i s) ∙ sym (ap (drop (n + 1)) et) ∙ sym eu
 
 -- which case of `bounds` holds
-module _ (s : List ℕ) (held : Bool) (r i : ℕ) {t : List ℕ} {a : Literal} (et : t ≡ drop i s) (ea : a ≡ literal_of (literal t)) where
-  abbrev Judged : LineForm → Type 0
-  Judged l = line_from s l ≡ judged (whole_line s (bounds (ranged held r) s i))
-
-  pub bounds_bad : a ≡ literal.Bad → Judged (line.Refused 6)
+module _ (s : List ℕ) (held : Bool) (r i : ℕ) {t : List ℕ} (et : t ≡ drop i s) {a : Option (Found (Option ℤ))} (ea : got_of a ≡ map_got value_of (literal t)) where
+  pub bounds_bad : a ≡ None → Judged s held r i (Err Ungrammatical)
   unfolding bounds whole_line judged
-  bounds_bad e = rw (← et, literal_bad (literal t) ea e)
+  bounds_bad e = rw (← et, not_found value_of (literal t) ea e)
 
-  module _ {v : ℤ} {far : Bool} {n : ℕ} (ga : a ≡ literal.Is v far n) {b : ℕ} (eb : b ≡ get_or s (i + n) 0) where
-    pub bounds_no_space : (b ≡ code " " → ⊥) → Judged (line.Refused 6)
+  module _ {lo : Found (Option ℤ)} (ga : a ≡ Some lo) where
+    lo_is : (z : ℤ) × (literal t ≡ got z lo.len) × (value_of z ≡ lo.value)
+    lo_is = found value_of (literal t) ea ga
+
+    pub bounds_no_space : (get_or t lo.len 0 ≡ 32 → ⊥) → Judged s held r i (Err Ungrammatical)
     unfolding bounds whole_line judged
-    bounds_no_space ne = rw (← et, (literal_is (literal t) ea ga).1, ← eb, ne_eqb _ _ ne)
+    bounds_no_space ne = rw (← et, lo_is.1, at_part s i lo.len et, ne_eqb _ _ ne)
 
-    module _ (sp : b ≡ code " ") {t' : List ℕ} {a' : Literal} (et' : t' ≡ drop (i + n + 1) s) (ea' : a' ≡ literal_of (literal t')) where
-      pub bounds_second_bad : a' ≡ literal.Bad → Judged (line.Refused 6)
+    module _ (sp : get_or t lo.len 0 ≡ 32) {u : List ℕ} (eu : u ≡ drop (lo.len + 1) t) {b : Option (Found (Option ℤ))} (eb : got_of b ≡ map_got value_of (literal u)) where
+      pub bounds_second_bad : b ≡ None → Judged s held r i (Err Ungrammatical)
       unfolding bounds whole_line judged
-      bounds_second_bad e = rw (← et, (literal_is (literal t) ea ga).1, ← eb, eq-eqb _ _ sp, ← et', literal_bad (literal t') ea' e)
+      bounds_second_bad e = rw (← et, lo_is.1, at_part s i lo.len et, eq-eqb _ _ sp, left_part s i lo.len et eu, not_found value_of (literal u) eb e)
 
-      module _ {v' : ℤ} {far' : Bool} {m : ℕ} (ga' : a' ≡ literal.Is v' far' m) {e : Bool} (ee : e ≡ ends s (i + n + 1 + m)) where
-        whole_is : (z z' : ℤ) → literal t ≡ got z n → literal t' ≡ got z' m → judged (cond e (ok (ranged held r z z')) (stop 6)) ≡ judged (whole_line s (bounds (ranged held r) s i))
+      module _ {hi : Found (Option ℤ)} (gb : b ≡ Some hi) where
+        hi_is : (z : ℤ) × (literal u ≡ got z hi.len) × (value_of z ≡ hi.value)
+        hi_is = found value_of (literal u) eb gb
+
+        whole_is : whole_line s (bounds (ranged held r) s i) ≡ cond (ends u hi.len) (ok (ranged held r lo_is.0 hi_is.0)) (stop 6)
         unfolding bounds
-        whole_is z z' g g' = rw (← et, g, ← eb, eq-eqb _ _ sp, ← et', g', whole_ends s (i + n + 1 + m) (ranged held r z z'), ← ee)
+        whole_is =
+            rw (← et, lo_is.1, at_part s i lo.len et, eq-eqb _ _ sp, left_part s i lo.len et eu, hi_is.1)
+            (whole_ends s (i + lo.len + 1 + hi.len) (ranged held r lo_is.0 hi_is.0)
+            ∙ ap (λ c. cond c (ok (ranged held r lo_is.0 hi_is.0)) (stop 6)) (sym (ends_part s (i + lo.len + 1) hi.len (sym (left_part s i lo.len et eu)))))
 
-        pub bounds_unended : e ≡ false → Judged (line.Refused 6)
+        pub bounds_unended : ends u hi.len ≡ false → Judged s held r i (Err Ungrammatical)
         unfolding judged
-        bounds_unended h =
-            let p = literal_is (literal t) ea ga in
-            let q = literal_is (literal t') ea' ga' in
-            rw h at (whole_is p.0 q.0 p.1 q.1)
+        bounds_unended h = let e : whole_line s (bounds (ranged held r) s i) ≡ stop 6 = rw h at whole_is in sym (ap judged e)
 
-        pub bounds_is : {o : Bool} {l : LineForm} → e ≡ true → o ≡ (far || far') → l ≡ range_line held r (rd v) (rd v') o → Judged l
-        bounds_is {o} {l} h eo el =
-            let p = literal_is (literal t) ea ga in
-            let q = literal_is (literal t') ea' ga' in
-            ap (line_from s) (el ∙ (λ j. range_line held r (kept_read p.0 p.2 j) (kept_read q.0 q.2 j) (eo j)) ∙ (λ j. range_line held r (kept p.0) (kept q.0) (sym p.3 j || sym q.3 j)))
-            ∙ range_judged s held r p.0 q.0
-            ∙ rw h at (whole_is p.0 q.0 p.1 q.1)
+        module _ (h : ends u hi.len ≡ true) where
+          judged_is : judged (whole_line s (bounds (ranged held r) s i))
+              ≡ cond (beyond lo_is.0 || beyond hi_is.0) (stop 7) (cond (lt_z hi_is.0 lo_is.0) (stop 6) (ok (ranged held r lo_is.0 hi_is.0)))
+          judged_is = ap judged (whole_is ∙ rw h) ∙ judged_range held r lo_is.0 hi_is.0
+
+          pub bounds_far_lo : lo.value ≡ None → Judged s held r i (Err FarLiteral)
+          bounds_far_lo e = sym (judged_is ∙ rw (none_far lo_is.0 (lo_is.2 ∙ e)))
+
+          pub bounds_far_hi : hi.value ≡ None → Judged s held r i (Err FarLiteral)
+          bounds_far_hi e = sym (judged_is ∙ rw (none_far hi_is.0 (hi_is.2 ∙ e), or_yes (beyond lo_is.0)))
+
+          module _ {l g : ℤ} (el : lo.value ≡ Some l) (eg : hi.value ≡ Some g) where
+            near_is : judged (whole_line s (bounds (ranged held r) s i)) ≡ cond (lt_z g l) (stop 6) (ok (ranged held r l g))
+            near_is =
+                let p = some_near lo_is.0 (lo_is.2 ∙ el) in
+                let q = some_near hi_is.0 (hi_is.2 ∙ eg) in
+                judged_is ∙ rw (p.0, q.0, p.1, q.1)
+
+            pub bounds_crossed : lt_z g l ≡ true → Judged s held r i (Err Ungrammatical)
+            bounds_crossed e = sym (near_is ∙ rw e)
+
+            pub bounds_is : lt_z g l ≡ false → ok (ranged held r l g) ≡ judged (whole_line s (bounds (ranged held r) s i))
+            bounds_is e = sym (near_is ∙ rw e)
 
 -- ---- (put R E)
 
@@ -153,47 +171,56 @@ module _ (t : List ℕ) {q : Got Bool} (eq : q ≡ arg sizes 7 t) where
       go (got f m) h = let z' : ◌≡◌ {A = ℕ} 0 1 = cc in absurd (omega arith)
       go bad h = refl
 
-module _ (s : List ℕ) (r i : ℕ) {t : List ℕ} {q : Got Bool} (et : t ≡ drop i s) (eq : q ≡ arg sizes 7 t) where
-  abbrev Put : LineForm → Type 0
-  Put l = line_from s l ≡ judged (whole_line s (body kind.Put s r i))
+module _ (s : List ℕ) (r i : ℕ) {t : List ℕ} (et : t ≡ drop i s) {q : Option (Found Bool)} (eq : got_of q ≡ arg sizes 7 t) where
+  pub put_bad : q ≡ None → stop 6 ≡ judged (whole_line s (put_at s r i))
+  unfolding value whole_line judged
+  put_bad e = rw (← et, tree_bad t eq (ap got_of e))
 
-  pub put_bad : q ≡ bad → Put (line.Refused 6)
-  unfolding body value whole_line judged
-  put_bad e = rw (← et, tree_bad t eq e)
+  module _ {size : Found Bool} (qo : q ≡ Some size) where
+    tree_got : (e : Form) × (arg tree 7 t ≡ got e size.len) × (far_form e ≡ size.value)
+    tree_got = tree_is t eq (ap got_of qo)
 
-  module _ {far : Bool} {n : ℕ} (qo : q ≡ got far n) {e : Bool} (ee : e ≡ ends s (i + n)) where
-    put_whole : (f : Form) → arg tree 7 t ≡ got f n → judged (cond e (ok (act (put r f))) (stop 6)) ≡ judged (whole_line s (body kind.Put s r i))
-    unfolding body value
-    put_whole f g = rw (← et, g, whole_ends s (i + n) (act (put r f)), ← ee)
+    put_whole : whole_line s (put_at s r i) ≡ cond (ends t size.len) (ok (act (put r tree_got.0))) (stop 6)
+    unfolding value
+    put_whole =
+        rw (← et, tree_got.1)
+        (whole_ends s (i + size.len) (act (put r tree_got.0)) ∙ ap (λ c. cond c (ok (act (put r tree_got.0))) (stop 6)) (sym (ends_part s i size.len et)))
 
-    pub put_unended : e ≡ false → Put (line.Refused 6)
+    pub put_unended : ends t size.len ≡ false → stop 6 ≡ judged (whole_line s (put_at s r i))
     unfolding judged
-    put_unended h = let p = tree_is t eq qo in rw h at (put_whole p.0 p.1)
+    put_unended h = let e : whole_line s (put_at s r i) ≡ stop 6 = rw h at put_whole in sym (ap judged e)
 
-    pub put_far : e ≡ true → far ≡ true → Put (line.Refused 7)
-    unfolding judged far_line far_act
-    put_far h k = let p = tree_is t eq qo in rw (h, p.2 ∙ k) at (put_whole p.0 p.1)
+    module _ (h : ends t size.len ≡ true) where
+      put_judged : judged (whole_line s (put_at s r i)) ≡ cond size.value (stop 7) (ok (act (put r tree_got.0)))
+      unfolding judged far_line far_act crossed_line crossed_act
+      put_judged = let e : whole_line s (put_at s r i) ≡ ok (act (put r tree_got.0)) = rw h at put_whole in ap judged e ∙ rw tree_got.2
 
-    pub put_is : e ≡ true → far ≡ false → Put (line.Put r i)
-    unfolding judged far_line far_act crossed_line crossed_act
-    put_is h k =
-        let p = tree_is t eq qo in
-        ap (put_of r) (ap (arg tree 7) (sym et) ∙ p.1) ∙ rw (h, p.2 ∙ k) at (put_whole p.0 p.1)
+      pub put_far : size.value ≡ true → stop 7 ≡ judged (whole_line s (put_at s r i))
+      put_far k = sym (put_judged ∙ ap (λ b. cond b (stop 7) (ok (act (put r tree_got.0)))) k)
+
+      pub put_is : {j : ℕ} → j ≡ i → size.value ≡ false → put_of r (arg tree 7 (drop j s)) ≡ judged (whole_line s (put_at s r i))
+      put_is {j} ej k = ap (λ n. put_of r (arg tree 7 (drop n s))) ej ∙ ap (put_of r) (ap (arg tree 7) (sym et) ∙ tree_got.1) ∙ sym (put_judged ∙ ap (λ b. cond b (stop 7) (ok (act (put r tree_got.0)))) k)
+
+-- where the form starts, by what is left of the line there
+pub form_start : (s : List ℕ) (i n : ℕ) {t u : List ℕ} → t ≡ drop i s → get_or t n 0 ≡ 32 → u ≡ drop (n + 1) t → length s - length u ≡ i + n + 1
+form_start s i n {t} {u} et sp eu =
+    let l = byte_lt s (i + n) (omega (arith, at_part s i n et)) in
+    omega (arith, ap length (left_part s i n et eu), length-drop (i + n + 1) s)
 
 -- ---- the line's register
 
-module _ (s : List ℕ) (kind : Kind) (k : ℕ) {t : List ℕ} {g : Got ℕ} (et : t ≡ drop k s) (eg : g ≡ register t) where
-  pub kind_no_register : g ≡ bad → stop 6 ≡ judged (whole_line s (on_register s k (body kind s)))
+module _ (s : List ℕ) (body : ℕ → ℕ → Got Line) (i : ℕ) {t : List ℕ} (et : t ≡ drop i s) {g : Option (Found ℕ)} (eg : got_of g ≡ register t) where
+  pub no_register : g ≡ None → stop 6 ≡ judged (whole_line s (on_register s i body))
   unfolding whole_line judged
-  kind_no_register e = rw (← et, sym eg ∙ e)
+  no_register e = rw (← et, sym eg ∙ ap got_of e)
 
-  module _ {r n : ℕ} (go : g ≡ got r n) {b : ℕ} (eb : b ≡ get_or s (k + n) 0) where
-    pub kind_no_space : (b ≡ code " " → ⊥) → stop 6 ≡ judged (whole_line s (on_register s k (body kind s)))
+  module _ {r : Found ℕ} (gr : g ≡ Some r) where
+    pub register_no_space : (get_or t r.len 0 ≡ 32 → ⊥) → stop 6 ≡ judged (whole_line s (on_register s i body))
     unfolding whole_line judged
-    kind_no_space ne = rw (← et, sym eg ∙ go, ← eb, ne_eqb _ _ ne)
+    register_no_space ne = rw (← et, sym eg ∙ ap got_of gr, at_part s i r.len et, ne_eqb _ _ ne)
 
-    pub kind_body : b ≡ code " " → judged (whole_line s (body kind s r (k + n + 1))) ≡ judged (whole_line s (on_register s k (body kind s)))
-    kind_body sp = rw (← et, sym eg ∙ go, ← eb, eq-eqb _ _ sp)
+    pub register_is : get_or t r.len 0 ≡ 32 → judged (whole_line s (body r.value (i + r.len + 1))) ≡ judged (whole_line s (on_register s i body))
+    register_is sp = rw (← et, sym eg ∙ ap got_of gr, at_part s i r.len et, eq-eqb _ _ sp)
 
 -- ---- the whole line
 
@@ -202,14 +229,14 @@ map_register f s k p q h =
     map_any f (register (drop k s)) (λ r n. byte s (k + n) (code " ") (p r (k + n + 1))) (λ r n. byte s (k + n) (code " ") (q r (k + n + 1)))
     (λ r n. map_cond f (eqb (get_or s (k + n) 0) (code " ")) (p r (k + n + 1)) bad (q r (k + n + 1)) bad (h r (k + n + 1)) refl)
 
-map_put : (s : List ℕ) (r i : ℕ) → map_got act (value tree (put r) 7 s i) ≡ body kind.Put s r i
-unfolding value body
+map_put : (s : List ℕ) (r i : ℕ) → map_got act (value tree (put r) 7 s i) ≡ put_at s r i
+unfolding value
 map_put s r i =
     map_any act (arg tree 7 (drop i s)) (λ e n. closed s (i + n) (put r e)) (λ e n. closed s (i + n) (act (put r e)))
     (λ e n. map_closed act s (i + n) (put r e) (act (put r e)) refl)
 
-map_hold : (s : List ℕ) (r i : ℕ) → map_got act (bounds (hold r) s i) ≡ body kind.Hold s r i
-unfolding bounds body
+map_hold : (s : List ℕ) (r i : ℕ) → map_got act (bounds (hold r) s i) ≡ bounds (ranged true r) s i
+unfolding bounds
 map_hold s r i =
     map_any act (literal (drop i s)) (λ lo n. byte s (i + n) (code " ") (and_then (literal (drop (i + n + 1) s)) (λ hi m. closed s (i + n + 1 + m) (hold r lo hi))))
     (λ lo n. byte s (i + n) (code " ") (and_then (literal (drop (i + n + 1) s)) (λ hi m. closed s (i + n + 1 + m) (act (hold r lo hi)))))
@@ -220,28 +247,39 @@ map_hold s r i =
     (λ hi m. map_closed act s (i + n + 1 + m) (hold r lo hi) (act (hold r lo hi)) refl))
     refl)
 
-module _ (s : List ℕ) {x : Bool} (ex : x ≡ begins (bytes "(in ") s) where
-  pub line_in : x ≡ true → judged (whole_line s (on_register s 4 (body kind.In s))) ≡ read_line s
-  unfolding read_line line_of body
-  line_in e = rw (sym ex ∙ e)
+begins_prefix : (w s : List ℕ) → begins w s ≡ pointwise eqb (take (length w) s) w
+unfolding begins
+begins_prefix [] s = refl
+begins_prefix (x ∷ w) [] = refl
+begins_prefix (x ∷ w) (b ∷ s) = ap (λ c. eqb b x && c) (begins_prefix w s)
 
-  module _ (n : x ≡ false) {y : Bool} (ey : y ≡ begins (bytes "(put ") s) where
-    pub line_put : y ≡ true → judged (whole_line s (on_register s 5 (body kind.Put s))) ≡ read_line s
+-- the text begins with the word, by the code's test
+abbrev Begins : List ℕ → List ℕ → Bool → Type 0
+Begins w s b = pointwise eqb (take (length w) s) w ≡ b
+
+-- by the first word
+module _ (s : List ℕ) where
+  pub line_in : Begins (bytes "(in ") s true → judged (whole_line s (on_register s 4 (λ r k. bounds (ranged false r) s k))) ≡ read_line s
+  unfolding read_line line_of
+  line_in e = rw (begins_prefix (bytes "(in ") s ∙ e)
+
+  module _ (n : Begins (bytes "(in ") s false) where
+    pub line_put : Begins (bytes "(put ") s true → judged (whole_line s (on_register s 5 (put_at s))) ≡ read_line s
     unfolding read_line line_of act_of
     line_put e =
-        rw (sym ex ∙ n, sym ey ∙ e)
-        (ap (λ (g : Got Line). judged (whole_line s g)) (sym (map_register act s 5 (λ r i. value tree (put r) 7 s i) (body kind.Put s) (λ r i. map_put s r i))))
+        rw (begins_prefix (bytes "(in ") s ∙ n, begins_prefix (bytes "(put ") s ∙ e)
+        (ap (λ (g : Got Line). judged (whole_line s g)) (sym (map_register act s 5 (λ r i. value tree (put r) 7 s i) (put_at s) (λ r i. map_put s r i))))
 
-    module _ (m : y ≡ false) {z : Bool} (ez : z ≡ begins (bytes "(hold ") s) where
-      pub line_hold : z ≡ true → judged (whole_line s (on_register s 6 (body kind.Hold s))) ≡ read_line s
+    module _ (m : Begins (bytes "(put ") s false) where
+      pub line_hold : Begins (bytes "(hold ") s true → judged (whole_line s (on_register s 6 (λ r k. bounds (ranged true r) s k))) ≡ read_line s
       unfolding read_line line_of act_of
       line_hold e =
-          rw (sym ex ∙ n, sym ey ∙ m, sym ez ∙ e)
-          (ap (λ (g : Got Line). judged (whole_line s g)) (sym (map_register act s 6 (λ r i. bounds (hold r) s i) (body kind.Hold s) (λ r i. map_hold s r i))))
+          rw (begins_prefix (bytes "(in ") s ∙ n, begins_prefix (bytes "(put ") s ∙ m, begins_prefix (bytes "(hold ") s ∙ e)
+          (ap (λ (g : Got Line). judged (whole_line s g)) (sym (map_register act s 6 (λ r i. bounds (hold r) s i) (λ r k. bounds (ranged true r) s k) (λ r i. map_hold s r i))))
 
-      pub line_none : z ≡ false → stop 6 ≡ read_line s
+      pub line_none : Begins (bytes "(hold ") s false → stop 6 ≡ read_line s
       unfolding read_line line_of act_of whole_line judged
-      line_none e = rw (sym ex ∙ n, sym ey ∙ m, sym ez ∙ e)
+      line_none e = rw (begins_prefix (bytes "(in ") s ∙ n, begins_prefix (bytes "(put ") s ∙ m, begins_prefix (bytes "(hold ") s ∙ e)
 
 -- ---- what an answer of `read_line` says
 
@@ -268,7 +306,7 @@ pub refused_some : (s : List ℕ) → read_line s ≡ stop 0 → ⊥
 unfolding read_line
 refused_some s e = judged_some (whole_line s (line_of 7 s)) (whole_some s (line_of 7 s)) e
 
-pub put_reads : (s : List ℕ) (r j : ℕ) → line_from s (line.Put r j) ≡ read_line s → (e : Form) × (n : ℕ) × (arg tree 7 (drop j s) ≡ got e n) × (read_line s ≡ ok (act (put r e)))
+pub put_reads : (s : List ℕ) (r j : ℕ) → line_from s (Ok (Put r j)) ≡ read_line s → (e : Form) × (n : ℕ) × (arg tree 7 (drop j s) ≡ got e n) × (read_line s ≡ ok (act (put r e)))
 put_reads s r j h = go (arg tree 7 (drop j s)) refl
   where
     go : (g : Got Form) → arg tree 7 (drop j s) ≡ g → (e : Form) × (n : ℕ) × (arg tree 7 (drop j s) ≡ got e n) × (read_line s ≡ ok (act (put r e)))

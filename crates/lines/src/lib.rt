@@ -1,167 +1,107 @@
-// Reading a line of a sheet from its bytes (01, "Sheet"), without its LF: its kind, its register, LO and HI or where its form starts.
+// Reading a line of a sheet from its bytes, without its LF: its kind, its register, its range or where its form starts.
 #![tactic(auto)]
 
-ghost use Rattle.std.specs.Prelude.{◌≡◌, ◌≤◌, length};
-ghost use Rattle.meaning.specs.Reading.{begins as begins_with, on_register, bounds, whole_line, judged, read_line};
-ghost use Rattle.lines.specs.Answer.{ends as ends_at, ranged, range_line, body as body_of, line_from};
+ghost use Rattle.std.specs.Prelude.{◌≡◌, ◌+◌, ◌≢◌, List, ℕ, Bool, length, drop, get_or, MatchResult, true, false};
+ghost use Rattle.meaning.specs.Reading.{on_register, bounds, whole_line, judged, read_line};
+ghost use Rattle.lines.specs.Answer.{ends as ends_at, ranged as ranged_as, range_from, pair_from, line_from, put_at};
 
-use forms::{Took, arg, either};
+use forms::arg;
+use interval::Interval;
 use limits::INNER;
-use literals::{Literal, Register, at, read_literal, read_register, tail};
-use refusals::{FAR_LITERAL, UNGRAMMATICAL};
+use literals::{read_literal, read_register, tail};
+use refusals::Cause;
 
-// The first word of a line.
-#[derive(Clone, Copy)]
-enum Kind {
-    In,
-    Put,
-    Hold,
-}
-
-// A line: its register, and LO and HI or where its form starts; or the number of the refusal.
-#[derive(Clone, Copy)]
-pub enum LineForm {
-    In(usize, i64, i64),
+// A line: its register, and its range or where its form starts.
+#[derive(Clone, Copy, Debug, PartialEq, Eq)]
+pub enum Line {
+    In(usize, Interval),
     Put(usize, usize),
-    Hold(usize, i64, i64),
-    Refused(u8),
+    Hold(usize, Interval),
 }
 
-// Does the text begin with the word?
-fn begins(text: &[u8], word: &[u8]) -> bool
-    ensures { result ≡ begins_with word.now text.now }
+// What stands behind the first n bytes and a space.
+fn after_space(text: &[u8], n: usize) -> Result<&[u8], Cause>
+    ensures { MatchResult result
+        (λ rest. (get_or text.now n 0 ≡ 32) × (rest.now ≡ drop (n + 1) text.now))
+        (λ cause. (cause ≡ Cause.Ungrammatical) × (get_or text.now n 0 ≢ 32)) }
 {
-    let mut i = 0;
-    while i < word.len() {
-        if text.len() <= i {
-            return false;
-        }
-        if text[i] != word[i] {
-            return false;
-        }
-        i += 1;
-    }
-    true
+    tail(text, n).strip_prefix(b" ").ok_or(Cause::Ungrammatical)
 }
 
-// The line's closing bracket is at i, and nothing stands behind it.
-fn ends(text: &[u8], i: usize) -> bool
-    requires { i ≤ 18446744073709551614 }
-    ensures { result ≡ ends_at text.now i }
+// Behind the first n bytes stands the closing bracket, and nothing more.
+#[tactic(auto, using(crate::proofs::Lines::ends_by))]
+fn ends(text: &[u8], n: usize) -> Result<(), Cause>
+    ensures { MatchResult result
+        (λ _. ends_at text.now n ≡ true)
+        (λ cause. (cause ≡ Cause.Ungrammatical) × (ends_at text.now n ≡ false)) }
 {
-    if at(text, i) == b')' {
-        i + 1 == text.len()
+    if tail(text, n) == b")".as_slice() {
+        Ok(())
     } else {
-        false
+        Err(Cause::Ungrammatical)
     }
 }
 
-// (in R LO HI) or (hold R LO HI) once it is read: 7, then LO past HI.
-fn range_line(held: bool, r: usize, lo: i64, hi: i64, far: bool) -> LineForm
-    ensures { result ≡ range_line held r lo hi far }
+// A range, up to the line's end, where the line is read up to the text.
+#[tactic(auto, using(crate::proofs::Lines::bounds_bad, crate::proofs::Lines::bounds_no_space, crate::proofs::Lines::bounds_second_bad, crate::proofs::Lines::bounds_unended, crate::proofs::Lines::bounds_far_lo, crate::proofs::Lines::bounds_far_hi, crate::proofs::Lines::bounds_crossed, crate::proofs::Lines::bounds_is))]
+fn range(text: &[u8]) -> Result<Interval, Cause>
+    ensures { (line : List ℕ) (i : ℕ) (held : Bool) (r : ℕ) → text.now ≡ drop i line
+        → range_from held r result ≡ judged (whole_line line (bounds (ranged_as held r) line i)) }
 {
-    if far {
-        return LineForm::Refused(FAR_LITERAL);
-    }
+    let lo = read_literal(text).ok_or(Cause::Ungrammatical)?;
+    let text = after_space(text, lo.len)?;
+    let hi = read_literal(text).ok_or(Cause::Ungrammatical)?;
+    ends(text, hi.len)?;
+    let lo = lo.value.ok_or(Cause::FarLiteral)?;
+    let hi = hi.value.ok_or(Cause::FarLiteral)?;
     if hi < lo {
-        return LineForm::Refused(UNGRAMMATICAL);
+        return Err(Cause::Ungrammatical);
     }
-    if held {
-        LineForm::Hold(r, lo, hi)
-    } else {
-        LineForm::In(r, lo, hi)
-    }
+    Ok(Interval { lo, hi })
 }
 
-// LO and HI from i on, up to the line's end.
-fn bounds_line(text: &[u8], held: bool, r: usize, i: usize) -> LineForm
-    requires { i ≤ length text.now }
-    ensures { line_from text.now result ≡ judged (whole_line text.now (bounds (ranged held r) text.now i)) }
+// A register and a range, up to the line's end, where the line is read up to the text.
+#[tactic(auto, using(crate::proofs::Lines::no_register, crate::proofs::Lines::register_no_space, crate::proofs::Lines::register_is, crate::proofs::Lines::left_part))]
+fn ranged(text: &[u8]) -> Result<(usize, Interval), Cause>
+    ensures { (line : List ℕ) (i : ℕ) (held : Bool) → text.now ≡ drop i line
+        → pair_from held result ≡ judged (whole_line line (on_register line i (λ r k. bounds (ranged_as held r) line k))) }
 {
-    match read_literal(tail(text, i)) {
-        Literal::Is(lo, far, n) => {
-            if at(text, i + n) != b' ' {
-                return LineForm::Refused(UNGRAMMATICAL);
-            }
-            let j = i + n + 1;
-            match read_literal(tail(text, j)) {
-                Literal::Is(hi, far2, m) => {
-                    if ends(text, j + m) {
-                        range_line(held, r, lo, hi, either(far, far2))
-                    } else {
-                        LineForm::Refused(UNGRAMMATICAL)
-                    }
-                }
-                Literal::Bad => LineForm::Refused(UNGRAMMATICAL),
-            }
-        }
-        Literal::Bad => LineForm::Refused(UNGRAMMATICAL),
-    }
+    let register = read_register(text).ok_or(Cause::Ungrammatical)?;
+    let rest = after_space(text, register.len)?;
+    let range = range(rest)?;
+    Ok((register.value, range))
 }
 
-// E from i on, up to the line's end.
-fn put_line(text: &[u8], r: usize, i: usize) -> LineForm
-    requires { i ≤ length text.now }
-    ensures { line_from text.now result ≡ judged (whole_line text.now (body_of Kind.Put text.now r i)) }
+// The put of a line, whose register stands at the front of the text.
+#[tactic(auto, using(crate::proofs::Lines::no_register, crate::proofs::Lines::register_no_space, crate::proofs::Lines::register_is, crate::proofs::Lines::left_part, crate::proofs::Lines::put_bad, crate::proofs::Lines::put_unended, crate::proofs::Lines::put_far, crate::proofs::Lines::put_is, crate::proofs::Lines::form_start))]
+fn put(line: &[u8], text: &[u8]) -> Result<Line, Cause>
+    requires { text.now ≡ drop 5 line.now }
+    ensures { line_from line.now result ≡ judged (whole_line line.now (on_register line.now 5 (put_at line.now))) }
 {
-    match arg(tail(text, i), INNER) {
-        Took::Bytes(n, far) => {
-            if ends(text, i + n) {
-                if far {
-                    LineForm::Refused(FAR_LITERAL)
-                } else {
-                    LineForm::Put(r, i)
-                }
-            } else {
-                LineForm::Refused(UNGRAMMATICAL)
-            }
-        }
-        Took::Bad => LineForm::Refused(UNGRAMMATICAL),
+    let register = read_register(text).ok_or(Cause::Ungrammatical)?;
+    let form = after_space(text, register.len)?;
+    let size = arg(form, INNER).ok_or(Cause::Ungrammatical)?;
+    ends(form, size.len)?;
+    if size.value {
+        return Err(Cause::FarLiteral);
     }
-}
-
-// What stands behind the line's register.
-fn body(text: &[u8], kind: Kind, r: usize, i: usize) -> LineForm
-    requires { i ≤ length text.now }
-    ensures { line_from text.now result ≡ judged (whole_line text.now (body_of kind text.now r i)) }
-{
-    match kind {
-        Kind::In => bounds_line(text, false, r, i),
-        Kind::Put => put_line(text, r, i),
-        Kind::Hold => bounds_line(text, true, r, i),
-    }
-}
-
-// The register from k on, a space, and the rest.
-fn kind_line(text: &[u8], kind: Kind, k: usize) -> LineForm
-    requires { k ≤ 6 }
-    ensures { line_from text.now result ≡ judged (whole_line text.now (on_register text.now k (body_of kind text.now))) }
-{
-    match read_register(tail(text, k)) {
-        Register::Is(r, n) => {
-            if at(text, k + n) == b' ' {
-                body(text, kind, r, k + n + 1)
-            } else {
-                LineForm::Refused(UNGRAMMATICAL)
-            }
-        }
-        Register::None => LineForm::Refused(UNGRAMMATICAL),
-    }
+    Ok(Line::Put(register.value, line.len() - form.len()))
 }
 
 // The whole line, without its LF.
-pub fn read_line(text: &[u8]) -> LineForm
+#[tactic(auto, using(crate::proofs::Lines::line_in, crate::proofs::Lines::line_put, crate::proofs::Lines::line_hold, crate::proofs::Lines::line_none))]
+pub fn read_line(text: &[u8]) -> Result<Line, Cause>
     ensures { line_from text.now result ≡ read_line text.now }
 {
-    if begins(text, b"(in ") {
-        return kind_line(text, Kind::In, 4);
-    }
-    if begins(text, b"(put ") {
-        return kind_line(text, Kind::Put, 5);
-    }
-    if begins(text, b"(hold ") {
-        kind_line(text, Kind::Hold, 6)
+    if let Some(rest) = text.strip_prefix(b"(in ") {
+        let (register, range) = ranged(rest)?;
+        Ok(Line::In(register, range))
+    } else if let Some(rest) = text.strip_prefix(b"(put ") {
+        put(text, rest)
+    } else if let Some(rest) = text.strip_prefix(b"(hold ") {
+        let (register, range) = ranged(rest)?;
+        Ok(Line::Hold(register, range))
     } else {
-        LineForm::Refused(UNGRAMMATICAL)
+        Err(Cause::Ungrammatical)
     }
 }

@@ -1,4 +1,3 @@
-mod Counts
 pub mod Marks
 pub mod Checked
 pub mod Passed

@@ -27,11 +27,15 @@ use Rattle.laws.proofs.Slots.{Short, length_slot, length_shown, sound_short, set
 use Rattle.laws.proofs.Work.{judge_worked}
 use Rattle.sheet.specs.Judging.{IsSheet}
 use Rattle.sheet_check.specs.Answer.{answer_for}
-use Rattle.sheet_check.specs.declared.Answer.{Answer}
-use Rattle.sheet_check.specs.declared.Answer.TheVariants as answer
-use Rattle.sheet_check.proofs.Walking.{pass_done}
+use Rattle.std.specs.Prelude.{Result, Ok, Err}
+use Rattle.refusals.specs.declared.Cause.{Cause}
+use Rattle.refusals.specs.declared.Trouble.{Trouble}
+use Rattle.refusals.specs.declared.Trouble.TheVariants.{Refused, Stopped}
+use Rattle.refusals.specs.Numbers.{number_of}
+use Rattle.refusals.specs.Endings.{Ending, ending_of}
+use Rattle.refusals.specs.Endings as ending
 use Rattle.listed.specs.Counted.{Counted}
-use Rattle.listed.specs.Marks.{marks_after}
+use Rattle.listed.specs.Marks.{marks_of}
 use Rattle.listed.specs.Told.{Told}
 use Rattle.listed.proofs.Marks.{marks_listed}
 
@@ -70,7 +74,7 @@ pub record Passed (t : List ℕ) (l : List ℤ) (n : ℕ) : Type 0 where
   pub few : Counted l
   pub sets : (r : ℕ) → r < registers → set_in l r ≡ at bands.sets r
   pub normal : (r : ℕ) → r < registers → Normal (set_in l r)
-  pub marks : (r : ℕ) → r < registers → get_or (marks_after t n) r false ≡ listed sheet.lines r
+  pub marks : (r : ℕ) → r < registers → get_or (marks_of t) r false ≡ listed sheet.lines r
 
 passed : (t : List ℕ) {n : ℕ} {B : Bands} → check_text interval_limit t ≡ worked n (done B) → (old : List ℤ) → length old ≡ sets_need → Passed t (over (layout B.sets) old) n
 unfolding text_by
@@ -87,13 +91,19 @@ passed t {n} {B} e old size =
       few = counted t e old;
       sets = shown;
       normal = λ r h. subst Normal (sym (shown r h)) (s.each r).normal;
-      marks = λ r h. marks_listed t w.reads n r w.count h;
+      marks = λ r h. marks_listed t w.reads r h;
     }
 
-module _ {t : List ℕ} {l : List ℤ} {a : Answer} (k : Told t l a) where
-  pub told_pass : {n : ℕ} → a ≡ answer.Pass n → Passed t l n
+-- a success is a pass
+pass_done : (j : Judged Bands) {n : ℕ} → ending.success n ≡ answer_for j → (B : Bands) × (j ≡ worked n (done B))
+pass_done (refused k l) e = absurd (grind arith)
+pass_done (worked m (done B)) e = let m_is : m ≡ _ = cc in (B, ap (λ (k : ℕ). worked k (done B)) m_is)
+pass_done (worked m (stopped k l B)) e = absurd (grind arith)
+
+module _ {t : List ℕ} {l : List ℤ} {a : Result ℕ Trouble} (k : Told t l a) where
+  pub told_pass : {n : ℕ} → a ≡ Ok n → Passed t l n
   told_pass {n} z =
-      let p = pass_done (check_text interval_limit t) (sym z ∙ k.gave) in
+      let p = pass_done (check_text interval_limit t) (ap ending_of (sym z) ∙ k.gave) in
       subst (λ (x : List ℤ). Passed t x n) (sym (k.left ∙ ap (sets_left_by k.lent) p.1)) (passed t p.1 k.lent k.size)
 
   -- what a part for sheets that pass comes to
@@ -101,12 +111,12 @@ module _ {t : List ℕ} {l : List ℤ} {a : Answer} (k : Told t l a) where
     pub part_passed : {n : ℕ} (p : Passed t l n) → if_passed part t ≡ part p.sheet.lines p.bands.sets
     part_passed {n} p = passed_is part t p.sheet.lines n p.bands p.sheet.reads p.passes
 
-    abbrev Same : Answer → Type 0
-    Same (answer.Pass n) = Unit {0}
-    Same (answer.Finding i j) = if_passed part t ≡ finding i j
-    Same (answer.Refused i j) = if_passed part t ≡ refusal i j
+    abbrev Same : Ending → Type 0
+    Same (ending.success n) = Unit {0}
+    Same (ending.stop i j) = if_passed part t ≡ finding i j
+    Same (ending.refusal i j) = if_passed part t ≡ refusal i j
 
-    same : Same a
+    same : Same (ending_of a)
     same = subst Same (sym k.gave) (go (check_text interval_limit t) refl)
       where
         go : (x : Judged Bands) → check_text interval_limit t ≡ x → Same (answer_for x)
@@ -114,8 +124,8 @@ module _ {t : List ℕ} {l : List ℤ} {a : Answer} (k : Told t l a) where
         go (worked n (done B)) e = tt
         go (worked n (stopped i j B)) e = stopped_is part t n i j B e
 
-    pub part_finding : {i j : ℕ} → a ≡ answer.Finding i j → if_passed part t ≡ finding i j
-    part_finding e = subst Same e same
+    pub part_stopped : {c : Cause} {j : ℕ} → a ≡ Err (Stopped c j) → if_passed part t ≡ finding (number_of c) j
+    part_stopped e = subst (λ (r : Result ℕ Trouble). Same (ending_of r)) e same
 
-    pub part_refused : {i j : ℕ} → a ≡ answer.Refused i j → if_passed part t ≡ refusal i j
-    part_refused e = subst Same e same
+    pub part_refused : {c : Cause} {j : ℕ} → a ≡ Err (Refused c j) → if_passed part t ≡ refusal (number_of c) j
+    part_refused e = subst (λ (r : Result ℕ Trouble). Same (ending_of r)) e same

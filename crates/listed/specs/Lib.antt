@@ -1,3 +1,3 @@
 pub mod Marks
-pub mod Told
 pub mod Counted
+pub mod Told

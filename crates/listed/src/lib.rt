@@ -1,23 +1,23 @@
 // What the parts that show a passed sheet share: the marks of the registers with an `in` or `put`, and the ends of a register's set.
 #![tactic(auto)]
 
-ghost use Rattle.std.specs.Prelude.{◌≡◌, ◌+◌, ◌*◌, ◌<◌, length, get_or, take, drop, pos};
+ghost use Rattle.std.specs.Prelude.{◌≡◌, ℕ, ◌+◌, ◌*◌, ◌<◌, length, get_or, take, drop, pos};
 ghost use Rattle.meaning.specs.Sheet.{registers};
 ghost use Rattle.meaning.specs.Reading.{read_line};
 ghost use Rattle.meaning.specs.Check.{slot_size, count_in, sets_need};
 ghost use Rattle.sheet.specs.Judging.{IsSheet};
 ghost use Rattle.listed.specs.Counted.{Counted};
-ghost use Rattle.listed.specs.Marks.{mark_line, marks_after, Readable};
+ghost use Rattle.listed.specs.Marks.{mark_line, marks_of, Readable};
 
 use limits::{REGISTERS, SLOT};
-use lines::{LineForm, read_line};
-use sheet::line_end;
+use lines::{Line, read_line};
+use sheet::Lines;
 
 // How many intervals the first number of a register's slot says.
 fn count_in(x: i64) -> usize
     ensures { result ≡ count_in x }
 {
-    if x < 0 { 0 } else { x as usize }
+    usize::try_from(x).unwrap_or(0)
 }
 
 // The ends of register r's set.
@@ -33,33 +33,27 @@ pub fn ends_of(sets: &[i64], r: usize) -> &[i64]
 }
 
 // Marks the register of a line's `in` or `put`.
+// Kept: an arm for each kind of line, since behind `In(r, _) | Put(r, _)` nothing says which of them r stands in: the index, and what is marked, stay open.
 fn mark(marks: &mut [bool; REGISTERS], line: &[u8])
     requires { Readable line.now }
     ensures { marks.new ≡ mark_line (read_line line.now) marks.old }
 {
     match read_line(line) {
-        LineForm::In(r, _, _) => {
-            marks[r] = true;
-        }
-        LineForm::Put(r, _) => {
-            marks[r] = true;
-        }
-        LineForm::Hold(_, _, _) => {}
-        LineForm::Refused(_) => {}
+        Ok(Line::In(r, _)) => marks[r] = true,
+        Ok(Line::Put(r, _)) => marks[r] = true,
+        Ok(Line::Hold(..)) => {}
+        Err(_) => {}
     }
 }
 
-// Marks the registers that the n lines of a sheet write.
-pub fn mark_lines(marks: &mut [bool; REGISTERS], text: &[u8], n: usize)
-    requires { IsSheet text.now n × (marks.old ≡ marks_after text.now 0) }
-    ensures { marks.new ≡ marks_after text.now n }
+// The registers that the lines of a sheet write are marked.
+pub fn marks_of(text: &[u8]) -> [bool; REGISTERS]
+    requires { (n : ℕ) × IsSheet text.now n }
+    ensures { result ≡ marks_of text.now }
 {
-    let mut at = 0;
-    let mut i = 0;
-    while i < n {
-        let e = line_end(text, at);
-        mark(marks, &text[at..e]);
-        at = e + 1;
-        i += 1;
+    let mut marks = [false; REGISTERS];
+    for line in Lines::of(text) {
+        mark(&mut marks, line);
     }
+    marks
 }

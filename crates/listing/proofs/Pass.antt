@@ -14,10 +14,15 @@ use Rattle.meaning.specs.Text.{Read, sheet, no_sheet, read}
 use Rattle.meaning.specs.Run.{worked, judge}
 use Rattle.meaning.specs.Check.{Bands, at, set_in, interval_limit, check, text_by}
 use Rattle.meaning.specs.Listing.{trouble_line, register_line, register_lines, listed, pass_line, outcome_text, read_text, listing}
+use Rattle.std.specs.Prelude.{Result, Err}
+use Rattle.refusals.specs.declared.Cause.{Cause}
+use Rattle.refusals.specs.declared.Trouble.{Trouble}
+use Rattle.refusals.specs.declared.Trouble.TheVariants.{Refused, Stopped}
+use Rattle.refusals.specs.Numbers.{number_of}
+use Rattle.refusals.specs.Endings.{Ending, ending_of}
+use Rattle.refusals.specs.Endings as ending
 use Rattle.sheet_check.specs.Answer.{answer_for}
-use Rattle.sheet_check.specs.declared.Answer.{Answer}
-use Rattle.sheet_check.specs.declared.Answer.TheVariants as answer
-use Rattle.listed.specs.Marks.{marks_after}
+use Rattle.listed.specs.Marks.{marks_of}
 use Rattle.listed.specs.Told.{Told}
 use Rattle.listed.proofs.Passed.{Passed}
 use Rattle.listing.specs.Texts.{marked_line, marked_lines}
@@ -33,21 +38,21 @@ module _ (ls : List Line) (S : List Set) (m : List Bool) (l : List ℤ)
   marked_lines_are zero r h = refl
   marked_lines_are (suc n) r h = let k : r < registers = omega arith in let e = marked_lines_are n (suc r) (omega arith) in λ i. marked_is r k i ++ e i
 
-pub pass_text : {t : List ℕ} {l : List ℤ} {n : ℕ} → Passed t l n → pass_line n ++ marked_lines (marks_after t n) l 0 registers ≡ listing t
+pub pass_text : {t : List ℕ} {l : List ℤ} {n : ℕ} → Passed t l n → pass_line n ++ marked_lines (marks_of t) l 0 registers ≡ listing t
 unfolding listing read_text outcome_text
 pass_text {t} {l} {n} p =
     let ls = p.sheet.lines in
-    let m = marked_lines_are ls p.bands.sets (marks_after t n) l p.marks p.sets registers 0 (omega arith) in
+    let m = marked_lines_are ls p.bands.sets (marks_of t) l p.marks p.sets registers 0 (omega arith) in
     (λ i. pass_line (sym p.sheet.count i) ++ m i) ∙ sym (ap read_text p.sheet.reads ∙ ap (outcome_text ls) p.gives)
 
-module _ {t : List ℕ} {l : List ℤ} {a : Answer} (k : Told t l a) where
+module _ {t : List ℕ} {l : List ℤ} {a : Result ℕ Trouble} (k : Told t l a) where
   -- the line of anything but a pass
-  abbrev Line_of : Answer → Type 0
-  Line_of (answer.Pass n) = Unit {0}
-  Line_of (answer.Finding i j) = trouble_line (bytes "stop ") i j ≡ listing t
-  Line_of (answer.Refused i j) = trouble_line (bytes "refused ") i j ≡ listing t
+  abbrev Line_of : Ending → Type 0
+  Line_of (ending.success n) = Unit {0}
+  Line_of (ending.stop i j) = trouble_line (bytes "stop ") i j ≡ listing t
+  Line_of (ending.refusal i j) = trouble_line (bytes "refused ") i j ≡ listing t
 
-  told_line : Line_of a
+  told_line : Line_of (ending_of a)
   unfolding text_by listing read_text outcome_text
   told_line = subst Line_of (sym k.gave) (go (read t) refl)
     where
@@ -59,8 +64,8 @@ module _ {t : List ℕ} {l : List ℤ} {a : Answer} (k : Told t l a) where
       go (sheet ls) e = inner ls e (check interval_limit ls) refl
       go (no_sheet i j) e = sym (ap read_text e)
 
-  pub told_finding : {i j : ℕ} → a ≡ answer.Finding i j → trouble_line (bytes "stop ") i j ≡ listing t
-  told_finding e = subst Line_of e told_line
+  pub told_stopped : {c : Cause} {j : ℕ} → a ≡ Err (Stopped c j) → trouble_line (bytes "stop ") (number_of c) j ≡ listing t
+  told_stopped e = subst (λ (r : Result ℕ Trouble). Line_of (ending_of r)) e told_line
 
-  pub told_refused : {i j : ℕ} → a ≡ answer.Refused i j → trouble_line (bytes "refused ") i j ≡ listing t
-  told_refused e = subst Line_of e told_line
+  pub told_refused : {c : Cause} {j : ℕ} → a ≡ Err (Refused c j) → trouble_line (bytes "refused ") (number_of c) j ≡ listing t
+  told_refused e = subst (λ (r : Result ℕ Trouble). Line_of (ending_of r)) e told_line

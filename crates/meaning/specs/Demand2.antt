@@ -2,7 +2,7 @@
 -- and and, or and ne where both sets have a member.
 -- The theorem is `demand2` of laws/proofs/Demand2.antt. Assumes nothing.
 use Rattle.std.specs.Prelude.{ℤ, pos, length, ◌≡◌, Bool, true, false, List, ◌⊎◌, ℕ, ◌≤◌}
-use Rattle.std.proofs.Math.Option.{some}
+use Rattle.std.specs.Prelude.{Some}
 use Rattle.meaning.specs.Lists.{All}
 use Rattle.meaning.specs.Number.{Between, product, least_product, greatest_product, Op1, neg, abs, not', Op2, add, sub, mul, div, rem, le, lt, ne, and, or, point1, point2}
 use Rattle.meaning.specs.Interval.{Interval, span, Proper, PairOp, neg_pair, abs_pair, add_pair, sub_pair, uncut_pair, mul_pair, div_pair, rem_step, rem_pair}
@@ -19,7 +19,7 @@ pub record Result2 (o : Op2) (a b : Set) (z : ℤ) : Type 0 where
   pub right : ℤ
   pub left_in : left ∈ a
   pub right_in : right ∈ b
-  pub gives : point2 o left right ≡ some z
+  pub gives : point2 o left right ≡ Some z
 
 -- every point result is a member of the answer
 abbrev pub Holds1 : Op1 → Type 0

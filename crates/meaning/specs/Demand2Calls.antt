@@ -1,7 +1,7 @@
 -- Demand 2 for the calls: the set that a call writes where it refuses nothing. The numbers of a slice are i64, so they are from MIN to MAX.
 -- The theorem is `demand2_calls` of laws/proofs/Demand2Calls.antt. Assumes nothing.
 use Rattle.std.specs.Prelude.{ℤ, length, take, ◌≡◌, Bool, true, false, ◌⊎◌, List, ◌≤◌}
-use Rattle.std.proofs.Math.Option.{some}
+use Rattle.std.specs.Prelude.{Some}
 use Rattle.meaning.specs.Lists.{All}
 use Rattle.meaning.specs.Number.{Between, InRange, least_product, greatest_product, Op1, Op2, add, sub, mul, div, rem, le, lt, ne, and, or, point1, point2}
 use Rattle.meaning.specs.NumberIntervals.{Set, ◌∈◌, Normal, flag1, flag2, flat, intervals}
@@ -61,7 +61,7 @@ pub record Call2 (o : Op2) (left : List ℤ) (flag : Bool) (right : List ℤ) (r
   pub left_ends : Ends left
   pub right_ends : Ends right
   pub stands : Stands r out
-  pub holds : (x y z : ℤ) → x ∈ intervals left → y ∈ intervals right → point2 o x y ≡ some z → z ∈ shown r out
+  pub holds : (x y z : ℤ) → x ∈ intervals left → y ∈ intervals right → point2 o x y ≡ Some z → z ∈ shown r out
   pub only : exact2 o ≡ true → (z : ℤ) → z ∈ shown r out → Result2 o (intervals left) (intervals right) z
   -- mul gives nothing outside the range of products (02, (vii))
   pub products : o ≡ mul → (z : ℤ) → z ∈ shown r out → Between least_product z greatest_product

@@ -2,7 +2,7 @@
 use Rattle.std.specs.Prelude.{ℤ, pos, negsuc, neg_ℤ, nat_abs, ◌+ℤ◌, ◌-ℤ◌, ◌*ℤ◌, ◌≤ℤ◌, eqb, ◌≡◌, Bool, false, not, cond, ◌&&◌, ◌||◌, ℕ, ◌+◌, ◌-◌, ◌/◌, ◌^◌}
 use Rattle.std.proofs.Math.IntN.{suc_ℤ, pred_ℤ}
 use Rattle.std.specs.Int.Signed.{le_z, lt_z, quot_z, rem_z}
-use Rattle.std.proofs.Math.Option.{Option, none, some}
+use Rattle.std.specs.Prelude.{Option, None, Some}
 
 -- an integer is `pos n`, or `negsuc n`, which is −n − 1; this is −n
 abbrev pub minus : ℕ → ℤ
@@ -107,18 +107,18 @@ ratio x y = wrap (quot_z (wrap (ONE *ℤ x)) y)
 
 -- a divisor 0 has no result
 unfoldable pub quotient : ℤ → ℤ → Option ℤ
-quotient x y = cond (eq_z y (pos 0)) none (some (ratio x y))
+quotient x y = cond (eq_z y (pos 0)) None (Some (ratio x y))
 
 -- with the sign of the dividend; MIN rem −1 is 0
 unfoldable pub remainder : ℤ → ℤ → Option ℤ
-remainder x y = cond (eq_z y (pos 0)) none (some (rem_z x y))
+remainder x y = cond (eq_z y (pos 0)) None (Some (rem_z x y))
 
 -- the next number has no answer at MAX, the one before none at MIN
 unfoldable pub next : ℤ → Option ℤ
-next x = cond (lt_z x MAX) (some (suc_ℤ x)) none
+next x = cond (lt_z x MAX) (Some (suc_ℤ x)) None
 
 unfoldable pub prev : ℤ → Option ℤ
-prev x = cond (lt_z MIN x) (some (pred_ℤ x)) none
+prev x = cond (lt_z MIN x) (Some (pred_ℤ x)) None
 
 -- ---- truth (01, "BoolInterval"): nonzero is true, and the result is 0 or 1000
 
@@ -142,13 +142,13 @@ point1 abs x = absolute x
 point1 not' x = of_bool (not (truth x))
 
 unfoldable pub point2 : Op2 → ℤ → ℤ → Option ℤ
-point2 add x y = some (sum x y)
-point2 sub x y = some (difference x y)
-point2 mul x y = some (product x y)
+point2 add x y = Some (sum x y)
+point2 sub x y = Some (difference x y)
+point2 mul x y = Some (product x y)
 point2 div x y = quotient x y
 point2 rem x y = remainder x y
-point2 le x y = some (of_bool (le_z x y))
-point2 lt x y = some (of_bool (lt_z x y))
-point2 ne x y = some (of_bool (not (eq_z x y)))
-point2 and x y = some (of_bool (truth x && truth y))
-point2 or x y = some (of_bool (truth x || truth y))
+point2 le x y = Some (of_bool (le_z x y))
+point2 lt x y = Some (of_bool (lt_z x y))
+point2 ne x y = Some (of_bool (not (eq_z x y)))
+point2 and x y = Some (of_bool (truth x && truth y))
+point2 or x y = Some (of_bool (truth x || truth y))

@@ -2,7 +2,7 @@
 use Rattle.std.specs.Prelude.{ℤ, pos, ◌<ℤ◌, Bool, true, false, not, cond, ◌&&◌, ◌||◌, List, [], ◌∷◌, ◌++◌}
 use Rattle.std.proofs.Math.IntN.{suc_ℤ}
 use Rattle.std.specs.Int.Signed.{le_z, lt_z}
-use Rattle.std.proofs.Math.Option.{Option, none, some}
+use Rattle.std.specs.Prelude.{Option, None, Some}
 use Rattle.meaning.specs.Number.{ONE, Between, within, eq_z, smaller, larger, Op1, neg, abs, not', Op2, add, sub, mul, div, rem, le, lt, ne, and, or}
 use Rattle.meaning.specs.Bools.{BoolInterval, not_bools, and_bools, or_bools}
 use Rattle.meaning.specs.Interval.{Interval, span, only, Proper, each, meet_pair, PairOp, neg_pair, abs_pair, add_pair, sub_pair, uncut_pair, mul_pair, div_pair, rem_pair}
@@ -103,14 +103,14 @@ share a b = some_pair (λ s e t f. le_z (larger s t) (smaller e f)) a b
 
 -- the number of a set of just one
 abbrev pub constant : Set → Option ℤ
-constant [] = none
-constant (i ∷ []) = cond (eq_z i.lo i.hi) (some i.lo) none
-constant (i ∷ j ∷ s) = none
+constant [] = None
+constant (i ∷ []) = cond (eq_z i.lo i.hi) (Some i.lo) None
+constant (i ∷ j ∷ s) = None
 
 abbrev pub same_number : Option ℤ → Option ℤ → Bool
-same_number none y = false
-same_number (some x) none = false
-same_number (some x) (some y) = eq_z x y
+same_number None y = false
+same_number (Some x) None = false
+same_number (Some x) (Some y) = eq_z x y
 
 unfoldable pub ne_bools : Set → Set → BoolInterval
 ne_bools a b = record { bfalse = share a b; btrue = not (share a b) || not (same_number (constant a) (constant b)) }

@@ -1,7 +1,7 @@
 -- What a step gives: a value, or the number of the trouble that it meets. `work` carries a state through the lines, and the first line that meets trouble
 -- stops it. The run and the check are both `work`, each at a state and a step of its own. Assumes nothing.
 use Rattle.std.specs.Prelude.{List, [], ◌∷◌, ℕ, suc}
-use Rattle.std.proofs.Math.Option.{Option, none, some}
+use Rattle.std.specs.Prelude.{Option, None, Some}
 
 pub data Res (A : Type 0) : Type 0 where
   ok : A → Res A
@@ -13,8 +13,8 @@ bind (stop k) f = stop k
 
 -- no result is trouble k
 abbrev pub or_stop : {A : Type 0} → ℕ → Option A → Res A
-or_stop k none = stop k
-or_stop k (some a) = ok a
+or_stop k None = stop k
+or_stop k (Some a) = ok a
 
 -- done, with the last state; or stopped: the number, the line, and the state before that line
 pub data Outcome (A : Type 0) : Type 0 where

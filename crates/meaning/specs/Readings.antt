@@ -1,51 +1,51 @@
 -- Values that pin the readings of docs/DECISIONS.md: numbers, pairs and sets. Each line is a case where another reading would give another answer. Proved by computation in
 -- proofs/Readings.antt. Assumes nothing.
 use Rattle.std.specs.Prelude.{pos, ◌≡◌, true, false, [], ◌++◌, ◌-◌, ◌^◌}
-use Rattle.std.proofs.Math.Option.{none, some}
+use Rattle.std.specs.Prelude.{None, Some}
 use Rattle.meaning.specs.Number.{minus, MIN, MAX, least_product, greatest_product, neg, abs, not', add, sub, mul, div, rem, le, lt, ne, and, or, point1, point2, next, prev}
 use Rattle.meaning.specs.Interval.{span, only}
 use Rattle.meaning.specs.NumberIntervals.{set1, set2, flag1, flag2, union}
 
 pub record Readings : Type 0 where
   -- −1 × 1 is 0: division by 1000 goes toward 0
-  pub mul_to_zero : point2 mul (minus 1) (pos 1) ≡ some (pos 0)
+  pub mul_to_zero : point2 mul (minus 1) (pos 1) ≡ Some (pos 0)
   -- 2^60 / −1: 1000·2^60 wraps to MIN, and MIN / −1 to MIN
-  pub div_wraps : point2 div (pos (2 ^ 60)) (minus 1) ≡ some MIN
+  pub div_wraps : point2 div (pos (2 ^ 60)) (minus 1) ≡ Some MIN
   -- 7 / −2 is −3500
-  pub div_unscaled : point2 div (pos 7) (minus 2) ≡ some (minus 3500)
+  pub div_unscaled : point2 div (pos 7) (minus 2) ≡ Some (minus 3500)
   -- −7 rem 4 is −3
-  pub rem_sign : point2 rem (minus 7) (pos 4) ≡ some (minus 3)
+  pub rem_sign : point2 rem (minus 7) (pos 4) ≡ Some (minus 3)
   -- MIN rem −1 is 0
-  pub rem_minus_one : point2 rem MIN (minus 1) ≡ some (pos 0)
+  pub rem_minus_one : point2 rem MIN (minus 1) ≡ Some (pos 0)
   -- a divisor 0 has no result
-  pub div_none : point2 div (pos 7) (pos 0) ≡ none
+  pub div_none : point2 div (pos 7) (pos 0) ≡ None
   -- the absolute value of MIN is MIN
   pub abs_least : point1 abs MIN ≡ MIN
   -- so is its negation
   pub neg_least : point1 neg MIN ≡ MIN
   -- −(5) is −5, and 5 − 3 is 2
   pub neg_five : point1 neg (pos 5) ≡ minus 5
-  pub sub_order : point2 sub (pos 5) (pos 3) ≡ some (pos 2)
+  pub sub_order : point2 sub (pos 5) (pos 3) ≡ Some (pos 2)
   -- MAX + 1 is MIN
-  pub add_wraps : point2 add MAX (pos 1) ≡ some MIN
+  pub add_wraps : point2 add MAX (pos 1) ≡ Some MIN
   -- 3 < 3 is false, 3 <= 3 and 3 != 4 are true; a comparison takes its left argument first
-  pub lt_same_number : point2 lt (pos 3) (pos 3) ≡ some (pos 0)
-  pub le_same_number : point2 le (pos 3) (pos 3) ≡ some (pos 1000)
-  pub le_later : point2 le (pos 4) (pos 3) ≡ some (pos 0)
-  pub lt_earlier : point2 lt (pos 3) (pos 4) ≡ some (pos 1000)
-  pub ne_numbers : point2 ne (pos 3) (pos 4) ≡ some (pos 1000)
-  pub ne_same_number : point2 ne (pos 3) (pos 3) ≡ some (pos 0)
+  pub lt_same_number : point2 lt (pos 3) (pos 3) ≡ Some (pos 0)
+  pub le_same_number : point2 le (pos 3) (pos 3) ≡ Some (pos 1000)
+  pub le_later : point2 le (pos 4) (pos 3) ≡ Some (pos 0)
+  pub lt_earlier : point2 lt (pos 3) (pos 4) ≡ Some (pos 1000)
+  pub ne_numbers : point2 ne (pos 3) (pos 4) ≡ Some (pos 1000)
+  pub ne_same_number : point2 ne (pos 3) (pos 3) ≡ Some (pos 0)
   -- any number but 0 is true
-  pub and_zero : point2 and (pos 5) (pos 0) ≡ some (pos 0)
-  pub and_true : point2 and (pos 5) (minus 1) ≡ some (pos 1000)
-  pub or_zero : point2 or (pos 0) (pos 5) ≡ some (pos 1000)
-  pub or_false : point2 or (pos 0) (pos 0) ≡ some (pos 0)
+  pub and_zero : point2 and (pos 5) (pos 0) ≡ Some (pos 0)
+  pub and_true : point2 and (pos 5) (minus 1) ≡ Some (pos 1000)
+  pub or_zero : point2 or (pos 0) (pos 5) ≡ Some (pos 1000)
+  pub or_false : point2 or (pos 0) (pos 0) ≡ Some (pos 0)
   pub not_of_zero : point1 not' (pos 0) ≡ pos 1000
   pub not_of_one : point1 not' (pos 1) ≡ pos 0
   -- MAX has no next number, MIN has one
-  pub next_greatest : next MAX ≡ none
-  pub next_least : next MIN ≡ some (minus (2 ^ 63 - 1))
-  pub prev_least : prev MIN ≡ none
+  pub next_greatest : next MAX ≡ None
+  pub next_least : next MIN ≡ Some (minus (2 ^ 63 - 1))
+  pub prev_least : prev MIN ≡ None
   -- ∅ and {0} is {0}, ∅ or {5} is {1000}, not ∅ is ∅
   pub empty_and_zero : set2 and [] (only (pos 0)) ≡ only (pos 0)
   pub empty_and_five : set2 and [] (only (pos 5)) ≡ []

@@ -3,23 +3,27 @@
 #![tactic(auto)]
 
 ghost use Rattle.meaning.specs.Promises.{Unites, Meets};
-ghost use Rattle.replies.specs.Returning.{returned, Cased};
+ghost use Rattle.replies.specs.Returning.{returned};
 
-use replies::Reply;
-use set_calls::{Walk, walked};
+use refusals::Cause;
+use replies::{Written, accept_both, hand_out};
 
 // The set of the members of either.
-pub fn union(left: &[i64], right: &[i64], out: &mut [i64]) -> Reply
+pub fn union(left: &[i64], right: &[i64], out: &mut [i64]) -> Result<Written, Cause>
     ensures unites { Unites left.now right.now out.old (returned result) out.new }
-    ensures cased { Cased result }
 {
-    walked(Walk::Union, left, right, out)
+    accept_both(left, right)?;
+    let mut ends = [0i64; 64];
+    let count = sets::unite(&mut ends, left, right);
+    hand_out(out, &ends, count, false)
 }
 
 // The set of the members of both.
-pub fn intersect(left: &[i64], right: &[i64], out: &mut [i64]) -> Reply
+pub fn intersect(left: &[i64], right: &[i64], out: &mut [i64]) -> Result<Written, Cause>
     ensures meets { Meets left.now right.now out.old (returned result) out.new }
-    ensures cased { Cased result }
 {
-    walked(Walk::Intersect, left, right, out)
+    accept_both(left, right)?;
+    let mut ends = [0i64; 64];
+    let count = sets::meet(&mut ends, left, right);
+    hand_out(out, &ends, count, false)
 }

@@ -4,18 +4,10 @@
 
 ghost use Rattle.std.specs.Prelude.{◌≡◌};
 ghost use Rattle.meaning.specs.Number as point;
-ghost use Rattle.number.specs.Maybe.{maybe};
 
 pub use truth::{and, as_bool, le, lt, ne, not, or};
 pub use words::{MAX, MIN, ONE, neg};
 use words::{bits, milli, of_bits, quot, wrapping_mul};
-
-// A number, where there is one.
-#[derive(Clone, Copy)]
-pub enum Maybe {
-    Is(i64),
-    Nothing,
-}
 
 // The magnitude of x; that of MIN is MIN.
 pub fn abs(x: i64) -> i64
@@ -46,51 +38,47 @@ pub fn mul(x: i64, y: i64) -> i64
 }
 
 // The quotient of x and y as thousandths; a divisor 0 has none.
-pub fn div(x: i64, y: i64) -> Maybe
-    ensures { maybe result ≡ point.quotient x y }
+pub fn div(x: i64, y: i64) -> Option<i64>
+    ensures { result ≡ point.quotient x y }
 {
     if y == 0 {
-        Maybe::Nothing
+        None
     } else {
-        Maybe::Is(quot(wrapping_mul(ONE, x), y))
+        Some(quot(wrapping_mul(ONE, x), y))
     }
 }
 
 // The remainder of x by y, with the sign of x; a divisor 0 has none.
-pub fn rem(x: i64, y: i64) -> Maybe
-    ensures { maybe result ≡ point.remainder x y }
+pub fn rem(x: i64, y: i64) -> Option<i64>
+    ensures { result ≡ point.remainder x y }
 {
     if y == 0 {
-        Maybe::Nothing
+        None
     } else {
-        if y == -1 {
-            Maybe::Is(0)
-        } else {
-            Maybe::Is(x % y)
-        }
+        if y == -1 { Some(0) } else { Some(x % y) }
     }
 }
 
 // The number after x; there is none after MAX.
-pub fn next(x: i64) -> Maybe
-    ensures { maybe result ≡ point.next x }
+pub fn next(x: i64) -> Option<i64>
+    ensures { result ≡ point.next x }
 {
     if x < MAX {
         let after = x + 1;
-        Maybe::Is(after)
+        Some(after)
     } else {
-        Maybe::Nothing
+        None
     }
 }
 
 // The number before x; there is none before MIN.
-pub fn prev(x: i64) -> Maybe
-    ensures { maybe result ≡ point.prev x }
+pub fn prev(x: i64) -> Option<i64>
+    ensures { result ≡ point.prev x }
 {
     if MIN < x {
         let before = x - 1;
-        Maybe::Is(before)
+        Some(before)
     } else {
-        Maybe::Nothing
+        None
     }
 }

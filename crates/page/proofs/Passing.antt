@@ -10,13 +10,16 @@ use Rattle.meaning.specs.NumberIntervals.{Set}
 use Rattle.meaning.specs.Sheet.{registers, Line}
 use Rattle.meaning.specs.Check.{at, set_in}
 use Rattle.meaning.specs.Listing.{listed}
-use Rattle.meaning.specs.Composing.{Composed, text, finding, refusal}
+use Rattle.meaning.specs.Composing.{Composed, text}
 use Rattle.meaning.specs.Page.{Row, set_rows, register_rows, page_rows, rows_text, page_text, page}
-use Rattle.sheet_check.specs.declared.Answer.{Answer}
-use Rattle.sheet_check.specs.declared.Answer.TheVariants as answer
-use Rattle.listed.specs.Marks.{marks_after}
+use Rattle.std.specs.Prelude.{Result, Err}
+use Rattle.refusals.specs.declared.Trouble.{Trouble}
+use Rattle.refusals.specs.declared.Trouble.TheVariants.{Refused, Stopped}
+use Rattle.texts.specs.Answers.{Writes}
+use Rattle.texts.proofs.Answering.{writes_stop, writes_refusal, writes_as}
+use Rattle.listed.specs.Marks.{marks_of}
 use Rattle.listed.specs.Told.{Told}
-use Rattle.listed.proofs.Passed.{Passed, part_passed, part_finding, part_refused}
+use Rattle.listed.proofs.Passed.{Passed, part_passed, part_stopped, part_refused}
 use Rattle.page.specs.Marked.{own_rows, marked_rows, Shows}
 
 module _ (ls : List Line) (S : List Set) (m : List Bool) (l : List ℤ)
@@ -36,17 +39,15 @@ whole ls S = text (page_text ls S)
 pub shows : {t : List ℕ} {l : List ℤ} {n : ℕ} → Passed t l n → Shows l
 shows p = record { long = p.long; few = p.few; normal = p.normal }
 
-module _ {t : List ℕ} {l : List ℤ} {a : Answer} (k : Told t l a) where
-  pub page_passed : {n : ℕ} → Passed t l n → text (rows_text (marked_rows (marks_after t n) l 0 registers)) ≡ page t
+module _ {t : List ℕ} {l : List ℤ} {a : Result ℕ Trouble} (k : Told t l a) where
+  pub page_passed : {n : ℕ} → Passed t l n → text (rows_text (marked_rows (marks_of t) l 0 registers)) ≡ page t
   unfolding page page_text page_rows
   page_passed {n} p =
-      ap (λ (w : List Row). text (rows_text w)) (rows_are p.sheet.lines p.bands.sets (marks_after t n) l p.marks p.sets registers 0 (omega arith))
+      ap (λ (w : List Row). text (rows_text w)) (rows_are p.sheet.lines p.bands.sets (marks_of t) l p.marks p.sets registers 0 (omega arith))
       ∙ sym (part_passed k whole p)
 
-  pub page_finding : {i j : ℕ} → a ≡ answer.Finding i j → page t ≡ finding i j
+  -- anything else is answered as the check does
+  pub page_trouble : (e : Trouble) (out : List ℕ) → a ≡ Err e → Writes (page t) out (Err e) out
   unfolding page
-  page_finding e = part_finding k whole e
-
-  pub page_refused : {i j : ℕ} → a ≡ answer.Refused i j → page t ≡ refusal i j
-  unfolding page
-  page_refused e = part_refused k whole e
+  page_trouble (Stopped c j) out e = writes_as (sym (part_stopped k whole e)) (writes_stop c j out)
+  page_trouble (Refused c j) out e = writes_as (sym (part_refused k whole e)) (writes_refusal c j out)

@@ -5,7 +5,6 @@ use mathlib.Core.List.{List, [], ◌∷◌, ◌++◌, append_assoc}
 use Prim.Native.Nat.{ℕ, zero, suc, ◌+◌, ◌-◌, ◌*◌, ◌/◌, ◌≤◌, ◌<◌}
 use native.Mathlib.Omega.{arith}
 use native.Mathlib.Numerals.{add-one}
-use borrow.Rule.Slice.PartMut.{mid_of, put_mid}
 use lib.IntN.{ℤ, pos}
 use lib.ListN.{length, get_or, take, drop, length-append, length-take}
 use Rattle.meaning.specs.Lists.{All}
@@ -15,8 +14,9 @@ use Rattle.meaning.specs.Sheet.{registers}
 use Rattle.meaning.specs.Check.{slot_size, count_in, set_in, interval_limit}
 use Rattle.laws.proofs.Integers.{if_yes, if_no, cond_case}
 use Rattle.laws.proofs.Flat.{length_intervals}
-use Rattle.decimal.specs.Written.{Written}
-use Rattle.texts.proofs.Partly.{Partly, partly_as, partly_room, partly_next, partly_done}
+use Rattle.decimal.specs.declared.Writer.{Writer}
+use Rattle.decimal.specs.Written.{Fits, Appends}
+use Rattle.decimal.proofs.Partly.{Partly, partly_as, partly_fits, partly_next, partly_done}
 use Rattle.meaning.specs.Page.{Row, set_rows, row_line, rows_text}
 use Rattle.laws.proofs.PageColumns.{Roomy}
 use Rattle.laws.proofs.All.{all_append}
@@ -74,23 +74,27 @@ module _ (m : List Bool) (l : List ℤ) where
 
   -- ---- writing: the registers below r are written
 
-  abbrev pub Pages : ℕ → ℕ → List ℕ → List ℕ → Type 0
-  Pages r at new old = Partly (rows_text (marked_rows m l 0 registers)) (rows_text (marked_rows m l r (registers - r))) at new old
+  abbrev pub Pages : ℕ → Writer → Writer → Type 0
+  Pages r new old = Partly (rows_text (marked_rows m l 0 registers)) (rows_text (marked_rows m l r (registers - r))) new old
 
-  module _ {r at : ℕ} {new old : List ℕ} (p : Pages r at new old) (h : r < registers) (k : length (rows_text (marked_rows m l 0 registers)) ≤ length old) where
+  module _ {r : ℕ} {new old : Writer} (p : Pages r new old) (h : r < registers) where
     abbrev rest : List ℕ
     rest = rows_text (marked_rows m l (r + 1) (registers - (r + 1)))
 
-    turned : Partly (rows_text (marked_rows m l 0 registers)) (rows_text (own_rows m l r) ++ rest) at new old
+    turned : Partly (rows_text (marked_rows m l 0 registers)) (rows_text (own_rows m l r) ++ rest) new old
     turned = partly_as (ap rows_text (rows_step r h) ∙ text_append (own_rows m l r) (marked_rows m l (r + 1) (registers - (r + 1)))) p
 
-    pub pages_room : length (rows_text (own_rows m l r)) ≤ length (mid_of at (length new - at) new)
-    pages_room = partly_room (rows_text (own_rows m l r)) rest turned k
+    pub pages_fits : Fits (rows_text (marked_rows m l 0 registers)) old → Fits (rows_text (own_rows m l r)) new
+    pages_fits f = partly_fits (rows_text (own_rows m l r)) rest turned f
 
-    pub pages_next : {x : List ℕ} {n : ℕ} → Written n (rows_text (own_rows m l r)) x (mid_of at (length new - at) new) → Pages (r + 1) (at + n) (put_mid at (length new - at) new x) old
-    pages_next w = partly_next (rows_text (own_rows m l r)) rest turned k w
+    pub pages_next : {n : Writer} → Appends (rows_text (own_rows m l r)) n new → Pages (r + 1) n old
+    pages_next w = partly_next (rows_text (own_rows m l r)) rest turned w
 
-  pub pages_done : {r at : ℕ} {new old : List ℕ} → registers ≤ r → Pages r at new old → Written at (rows_text (marked_rows m l 0 registers)) new old
+    pub pages_none : [] ≡ own_rows m l r → Pages (r + 1) new old
+    unfolding rows_text
+    pages_none e = partly_as (ap (λ (x : List Row). rows_text x ++ rest) (sym e)) turned
+
+  pub pages_done : {r : ℕ} {new old : Writer} → registers ≤ r → Pages r new old → Appends (rows_text (marked_rows m l 0 registers)) new old
   unfolding rows_text
   pages_done {r} h p = partly_done (partly_as (ap rows_text (rows_end r h)) p)
 
@@ -108,8 +112,8 @@ module _ (m : List Bool) (l : List ℤ) (shows : Shows l) (r : ℕ) (h : r < reg
   unfolding set_in
   ends_normal = subst (λ (x : List ℤ). Normal (intervals x)) (sym is) (shows.normal r h)
 
-  pub ends_fit : (n : ℕ) → length (rows_text (own_rows m l r)) ≤ n → 73 * length (intervals e) ≤ n
-  ends_fit n k = omega (arith, own_size m l shows r h, ends_count, length_intervals e)
+  pub ends_fit : (at n : ℕ) → at + length (rows_text (own_rows m l r)) ≤ n → at + 73 * length (intervals e) ≤ n
+  ends_fit at n k = omega (arith, own_size m l shows r h, ends_count, length_intervals e)
 
   pub ends_text : rows_text (set_rows r (intervals e)) ≡ rows_text (own_rows m l r)
   ends_text = ap rows_text (own_yes m l r e t is)

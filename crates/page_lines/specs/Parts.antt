@@ -1,12 +1,7 @@
--- Parts of a line of the page, each the text that one function writes. Assumes nothing.
+-- A line of the page, which one function writes. Assumes nothing.
 use Rattle.std.specs.Prelude.{ℤ, List, ◌++◌, ℕ}
 use Rattle.meaning.specs.Bytes.{bytes}
-use Rattle.meaning.specs.Listing.{decimal_z}
-use Rattle.meaning.specs.Page.{member_count, row, right_set, row_line}
-
--- from column 47 on
-unfoldable pub count_end : ℤ → ℤ → List ℕ
-count_end lo hi = bytes " " ++ (right_set 20 (decimal_z (member_count lo hi)) ++ bytes "     \n")
+use Rattle.meaning.specs.Page.{row, row_line}
 
 -- the line of an interval, and its LF
 unfoldable pub interval_line : ℕ → ℤ → ℤ → List ℕ

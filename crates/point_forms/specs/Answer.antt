@@ -1,22 +1,17 @@
 -- What each answer of the code says, in the words of `meaning`. Assumes nothing.
-use Rattle.std.specs.Prelude.{ℤ, pos, get_or, List}
+use Rattle.std.specs.Prelude.{ℤ, pos, get_or, List, Result, Ok, Err}
 use Rattle.meaning.specs.Refusals.{ungrammatical, zero_divisor}
 use Rattle.meaning.specs.Outcome.{Res, ok, stop, bind, or_stop}
 use Rattle.meaning.specs.Number.{Op1, Op2, point1, point2}
 use Rattle.meaning.specs.Reading.{Got, got, bad, Algebra}
 use Rattle.literals.specs.Answer.{kept}
-use Rattle.point_forms.specs.declared.Num.{Num}
-use Rattle.point_forms.specs.declared.Num.TheVariants as num
-use Rattle.point_forms.specs.declared.Value.{Value}
-use Rattle.point_forms.specs.declared.Value.TheVariants as value
+use Rattle.refusals.specs.declared.Cause.{Cause}
+use Rattle.refusals.specs.Numbers.{number_of}
 
-abbrev pub res_of : Num → Res ℤ
-res_of (num.Is z) = ok z
-res_of (num.Stop k) = stop k
-
-abbrev pub value_got : Value → Got (Res ℤ)
-value_got (value.Got a n) = got (res_of a) n
-value_got value.Bad = bad
+-- a value, or the number of what stopped it
+abbrev pub res_of : {A : Type 0} → Result A Cause → Res A
+res_of (Ok a) = ok a
+res_of (Err cause) = stop (number_of cause)
 
 -- an operation on what its arguments came to
 unfoldable pub with1 : Op1 → Res ℤ → Res ℤ

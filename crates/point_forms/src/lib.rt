@@ -1,36 +1,20 @@
-// The value of a form in a run (01, "Plain run"): point values straight from the bytes, with no tree between.
+// The value of a form in a run: point values straight from the bytes, with no tree between.
 #![tactic(auto)]
 
-ghost use Rattle.std.specs.Prelude.{◌≡◌, ◌≤◌, drop};
-ghost use Rattle.meaning.specs.Refusals.{zero_divisor};
-ghost use Rattle.meaning.specs.Outcome.{or_stop};
+ghost use Rattle.std.specs.Prelude.{◌≡◌, ℤ, drop};
+ghost use Rattle.meaning.specs.Outcome.{Res};
 ghost use Rattle.meaning.specs.Number.{point1, point2};
-ghost use Rattle.meaning.specs.Reading.{arg as arg_at, form as form_at, closed as closed_at};
-ghost use Rattle.number.specs.Maybe.{maybe};
+ghost use Rattle.meaning.specs.Reading.{arg as arg_at};
 ghost use Rattle.forms.specs.Answer.{op1_of, op2_of};
-ghost use Rattle.point_forms.specs.Answer.{res_of, value_got, with1, with2, points, put_value};
+ghost use Rattle.point_forms.specs.Answer.{res_of, points, put_value};
 
-use forms::{Head, Op1, Op2, read_head, start};
+use forms::{Algebra, Op1, Op2, read_arg};
 use limits::{INNER, REGISTERS};
-use literals::{Literal, Register, at, read_literal, read_register, tail};
-use number::Maybe;
-use refusals::{UNGRAMMATICAL, ZERO_DIVISOR};
-
-// A value, or the number of what stopped it.
-#[derive(Clone, Copy)]
-pub enum Num {
-    Is(i64),
-    Stop(u8),
-}
-
-// The value of an argument or a form, and how many bytes it takes.
-#[derive(Clone, Copy)]
-enum Value {
-    Got(Num, usize),
-    Bad,
-}
+use literals::tail;
+use refusals::Cause;
 
 // An operation of one argument on a number.
+#[tactic(auto, unfolding(meaning::specs::Number::point1))]
 fn unary(op: Op1, x: i64) -> i64
     ensures { result ≡ point1 (op1_of op) x }
 {
@@ -41,126 +25,67 @@ fn unary(op: Op1, x: i64) -> i64
     }
 }
 
-// No result is a divisor 0.
-fn divided(m: Maybe) -> Num
-    ensures { res_of result ≡ or_stop zero_divisor (maybe m) }
-{
-    match m {
-        Maybe::Is(x) => Num::Is(x),
-        Maybe::Nothing => Num::Stop(ZERO_DIVISOR),
-    }
-}
-
-// An operation of two arguments on numbers.
-fn binary(op: Op2, x: i64, y: i64) -> Num
-    ensures { res_of result ≡ or_stop zero_divisor (point2 (op2_of op) x y) }
+// An operation of two arguments on numbers; a divisor 0 has no result.
+#[tactic(auto, unfolding(meaning::specs::Number::point2))]
+fn binary(op: Op2, x: i64, y: i64) -> Option<i64>
+    ensures { result ≡ point2 (op2_of op) x y }
 {
     match op {
-        Op2::Add => Num::Is(number::add(x, y)),
-        Op2::Sub => Num::Is(number::sub(x, y)),
-        Op2::Mul => Num::Is(number::mul(x, y)),
-        Op2::Div => divided(number::div(x, y)),
-        Op2::Rem => divided(number::rem(x, y)),
-        Op2::Le => Num::Is(number::le(x, y)),
-        Op2::Lt => Num::Is(number::lt(x, y)),
-        Op2::Ne => Num::Is(number::ne(x, y)),
-        Op2::And => Num::Is(number::and(x, y)),
-        Op2::Or => Num::Is(number::or(x, y)),
+        Op2::Add => Some(number::add(x, y)),
+        Op2::Sub => Some(number::sub(x, y)),
+        Op2::Mul => Some(number::mul(x, y)),
+        Op2::Div => number::div(x, y),
+        Op2::Rem => number::rem(x, y),
+        Op2::Le => Some(number::le(x, y)),
+        Op2::Lt => Some(number::lt(x, y)),
+        Op2::Ne => Some(number::ne(x, y)),
+        Op2::And => Some(number::and(x, y)),
+        Op2::Or => Some(number::or(x, y)),
     }
 }
 
-// Of one argument, whose trouble stays.
-fn one(op: Op1, a: Num) -> Num
-    ensures { res_of result ≡ with1 (op1_of op) (res_of a) }
-{
-    match a {
-        Num::Is(x) => Num::Is(unary(op, x)),
-        Num::Stop(k) => Num::Stop(k),
-    }
+// What forms come to where the registers hold these numbers.
+#[derive(Clone, Copy)]
+struct Values<'a> {
+    state: &'a [i64; REGISTERS],
 }
 
-// Both arguments, the left one's trouble first.
-fn two(op: Op2, a: Num, b: Num) -> Num
-    ensures { res_of result ≡ with2 (op2_of op) (res_of a) (res_of b) }
-{
-    match a {
-        Num::Is(x) => match b {
-            Num::Is(y) => binary(op, x, y),
-            Num::Stop(k) => Num::Stop(k),
-        },
-        Num::Stop(k) => Num::Stop(k),
-    }
-}
+impl Algebra for Values<'_> {
+    type Value = Result<i64, Cause>;
 
-// The closing bracket at i.
-fn closed(text: &[u8], i: usize, v: Num) -> Value
-    requires { i ≤ 18446744073709551614 }
-    ensures { value_got result ≡ closed_at text.now i (res_of v) }
-{
-    if at(text, i) == b')' {
-        Value::Got(v, i + 1)
-    } else {
-        Value::Bad
-    }
-}
+    ghost Meaning = { Res ℤ };
 
-// The value of an argument, with `depth` brackets left.
-#[cycle(evaluating)]
-fn eval_arg(text: &[u8], depth: usize, state: &[i64; REGISTERS]) -> Value
-    ensures { value_got result ≡ arg_at (points state.now) depth text.now }
-{
-    if at(text, 0) == b'(' {
-        if depth == 0 {
-            Value::Bad
-        } else {
-            eval_form(text, depth - 1, state)
-        }
-    } else {
-        match read_literal(text) {
-            Literal::Is(z, _, n) => Value::Got(Num::Is(z), n),
-            Literal::Bad => Value::Bad,
-        }
-    }
-}
+    ghost meaning = { res_of };
 
-// The value of a form, with `depth` brackets left inside its own.
-#[cycle(evaluating)]
-fn eval_form(text: &[u8], depth: usize, state: &[i64; REGISTERS]) -> Value
-    ensures { value_got result ≡ form_at (points state.now) depth text.now }
-{
-    let k = start(text);
-    match read_head(text) {
-        Head::Reg => match read_register(tail(text, k)) {
-            Register::Is(r, n) => closed(text, k + n, Num::Is(state[r])),
-            Register::None => Value::Bad,
-        },
-        Head::One(op) => match eval_arg(tail(text, k), depth, state) {
-            Value::Got(a, n) => closed(text, k + n, one(op, a)),
-            Value::Bad => Value::Bad,
-        },
-        Head::Two(op) => match eval_arg(tail(text, k), depth, state) {
-            Value::Got(a, n) => {
-                if at(text, k + n) != b' ' {
-                    return Value::Bad;
-                }
-                let j = k + n + 1;
-                match eval_arg(&text[j..], depth, state) {
-                    Value::Got(b, m) => closed(text, j + m, two(op, a, b)),
-                    Value::Bad => Value::Bad,
-                }
-            }
-            Value::Bad => Value::Bad,
-        },
-        Head::None => Value::Bad,
+    ghost algebra = { λ p. points p.state.now };
+
+    // A literal beyond MIN..MAX, which no line of a sheet has, counts as 0.
+    #[tactic(auto, using(literals::proofs::Literals::kept_is))]
+    fn literal(&mut self, z: Option<i64>) -> Result<i64, Cause> {
+        Ok(z.unwrap_or(0))
+    }
+
+    fn register(&mut self, r: usize) -> Result<i64, Cause> {
+        Ok(self.state[r])
+    }
+
+    #[tactic(auto, unfolding(crate::specs::Answer::with1, meaning::specs::Outcome::bind))]
+    fn one(&mut self, op: Op1, a: Result<i64, Cause>) -> Result<i64, Cause> {
+        Ok(unary(op, a?))
+    }
+
+    // The left argument's trouble comes first.
+    #[tactic(auto, unfolding(crate::specs::Answer::with2, meaning::specs::Outcome::bind))]
+    fn two(&mut self, op: Op2, a: Result<i64, Cause>, b: Result<i64, Cause>) -> Result<i64, Cause> {
+        binary(op, a?, b?).ok_or(Cause::ZeroDivisor)
     }
 }
 
 // The value of the form that starts at j.
-pub fn value_at(text: &[u8], j: usize, state: &[i64; REGISTERS]) -> Num
+pub fn value_at(text: &[u8], j: usize, state: &[i64; REGISTERS]) -> Result<i64, Cause>
     ensures { res_of result ≡ put_value (arg_at (points state.now) 7 (drop j text.now)) }
 {
-    match eval_arg(tail(text, j), INNER, state) {
-        Value::Got(v, _) => v,
-        Value::Bad => Num::Stop(UNGRAMMATICAL),
-    }
+    read_arg(tail(text, j), INNER, &mut Values { state })
+        .ok_or(Cause::Ungrammatical)?
+        .value
 }

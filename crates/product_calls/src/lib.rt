@@ -4,32 +4,48 @@
 
 ghost use Rattle.meaning.specs.Number as point;
 ghost use Rattle.meaning.specs.Promises.{Works2};
-ghost use Rattle.replies.specs.Returning.{returned, Cased};
+ghost use Rattle.replies.specs.Returning.{returned};
 
 use cores::Op;
-use replies::Reply;
+use refusals::Cause;
+use replies::Written;
 use set_calls::joined;
 
 // A set that holds the products of all members.
-pub fn mul(left: &[i64], flag: bool, right: &[i64], work: &mut [i64], out: &mut [i64]) -> Reply
+pub fn mul(
+    left: &[i64],
+    flag: bool,
+    right: &[i64],
+    work: &mut [i64],
+    out: &mut [i64],
+) -> Result<Written, Cause>
     ensures works2 { Works2 point.mul left.now flag right.now out.old work.old (returned result) out.new work.new }
-    ensures cased { Cased result }
 {
     joined(Op::Mul, left, flag, right, work, out)
 }
 
 // A set that holds the quotients of all members; a zero in the divisor sets the flag, if the left set has a member.
-pub fn div(left: &[i64], flag: bool, right: &[i64], work: &mut [i64], out: &mut [i64]) -> Reply
+pub fn div(
+    left: &[i64],
+    flag: bool,
+    right: &[i64],
+    work: &mut [i64],
+    out: &mut [i64],
+) -> Result<Written, Cause>
     ensures works2 { Works2 point.div left.now flag right.now out.old work.old (returned result) out.new work.new }
-    ensures cased { Cased result }
 {
     joined(Op::Div, left, flag, right, work, out)
 }
 
 // A set that holds the remainders of all members; a zero in the divisor sets the flag, if the left set has a member.
-pub fn rem(left: &[i64], flag: bool, right: &[i64], work: &mut [i64], out: &mut [i64]) -> Reply
+pub fn rem(
+    left: &[i64],
+    flag: bool,
+    right: &[i64],
+    work: &mut [i64],
+    out: &mut [i64],
+) -> Result<Written, Cause>
     ensures works2 { Works2 point.rem left.now flag right.now out.old work.old (returned result) out.new work.new }
-    ensures cased { Cased result }
 {
     joined(Op::Rem, left, flag, right, work, out)
 }

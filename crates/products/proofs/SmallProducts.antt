@@ -1,15 +1,15 @@
 -- Products of narrow intervals: the corners are in range and in window 0, so that the spread is the interval of the corners. Assumes nothing.
 use mathlib.Core.Path.{◌≡◌, sym, ap, ap₂, ◌∙◌}
-use mathlib.Core.Bool.{true, false, ◌&&◌}
+use mathlib.Core.Bool.{true, false}
 use Prim.Native.Nat.{suc, ◌*◌}
 use lib.IntN.{ℤ, pos, negsuc, ◌*ℤ◌}
-use lib.Signed.{le_z, ◌≤ℤ◌}
 use mir.Syntax.{w64}
 use mir.Val.{SFits}
-use Rattle.meaning.specs.Number.{Between, eq_z, window, wrap, thousandth}
+use mir.Facts.{to_z-of_z}
+use Rattle.meaning.specs.Number.{Between, eq_z, window, thousandth}
 use Rattle.meaning.specs.Interval.{one, span, far, least_corner, greatest_corner, mul_pair}
-use Rattle.laws.proofs.Integers.{zarith, and_both, up_neg, down_neg, sub_parts}
-use Rattle.laws.proofs.Machine.{num, fits_out}
+use Rattle.laws.proofs.Integers.{zarith, up_neg, down_neg, sub_parts}
+use Rattle.laws.proofs.Machine.{num, fits_out, rd}
 use Rattle.laws.proofs.Wrapping.{wrap_parts, wrap_id}
 use Rattle.laws.proofs.Spread.{spread_one}
 use Rattle.laws.proofs.Products.{least_above, greatest_below, corners_ordered}
@@ -68,18 +68,18 @@ module _ (s e t f : ℤ) (h : Narrow s e) (k : Narrow t f) where
   ef : Product (e *ℤ f)
   ef = small_product e f (end_small h) (end_small k)
 
-  -- each corner is its own wrapped value
-  pub st_wraps : wrap (s *ℤ t) ≡ s *ℤ t
-  st_wraps = wrap_id (s *ℤ t) (fits st)
+  -- each corner is in range
+  pub st_fits : SFits w64 (s *ℤ t)
+  st_fits = fits st
 
-  pub sf_wraps : wrap (s *ℤ f) ≡ s *ℤ f
-  sf_wraps = wrap_id (s *ℤ f) (fits sf)
+  pub sf_fits : SFits w64 (s *ℤ f)
+  sf_fits = fits sf
 
-  pub et_wraps : wrap (e *ℤ t) ≡ e *ℤ t
-  et_wraps = wrap_id (e *ℤ t) (fits et)
+  pub et_fits : SFits w64 (e *ℤ t)
+  et_fits = fits et
 
-  pub ef_wraps : wrap (e *ℤ f) ≡ e *ℤ f
-  ef_wraps = wrap_id (e *ℤ f) (fits ef)
+  pub ef_fits : SFits w64 (e *ℤ f)
+  ef_fits = fits ef
 
   pub small_mul : span (thousandth (least_corner ◌*ℤ◌ s e t f)) (thousandth (greatest_corner ◌*ℤ◌ s e t f)) ≡ mul_pair s e t f
   small_mul =
@@ -96,8 +96,6 @@ module _ (s e t f : ℤ) (h : Narrow s e) (k : Narrow t f) where
       let d : eq_z (window p) (window q) ≡ true = omega zarith in
       ap thousandths (ap₂ one (sym (wrap_id p (fits m))) (sym (wrap_id q (fits n))) ∙ sym (spread_one p q c d)) ∙ sym (thousandths_are s e t f)
 
--- the test of the code
-pub is_narrow : {s e : ℤ} → (le_z (negsuc 2147483647) s && le_z e (pos 2147483648)) ≡ true → s ≤ℤ e → Narrow s e
-is_narrow {s} {e} t o =
-    let b = and_both (le_z (negsuc 2147483647) s) (le_z e (pos 2147483648)) t in
-    record { low = omega (zarith, b.0); ordered = o; high = omega (zarith, b.1) }
+-- a product in range, as the machine reads it back
+pub product_read : {x y : ℤ} → SFits w64 x → SFits w64 y → SFits w64 (x *ℤ y) → rd (rd x *ℤ rd y) ≡ x *ℤ y
+product_read f g h = (λ i. rd (to_z-of_z f i *ℤ to_z-of_z g i)) ∙ to_z-of_z h

@@ -3,19 +3,19 @@
 // range is split or whole: they are those of the range of products, and are not divided.
 #![tactic(auto)]
 
-ghost use Rattle.std.specs.Prelude.{◌≡◌, ◌&&◌, ◌≤◌, pos, negsuc, ◌*ℤ◌, length};
+ghost use Rattle.std.specs.Prelude.{◌≡◌, ◌&&◌, ◌≤◌, pos, negsuc, length};
 ghost use Rattle.std.specs.Int.Signed.{le_z};
-ghost use Rattle.meaning.specs.Interval.{Proper, least_corner, greatest_corner, mul_pair};
+ghost use Rattle.meaning.specs.Interval.{mul_pair};
 ghost use Rattle.slices.specs.Wrote.{Wrote};
 ghost use Rattle.wide.specs.Range.{range_of};
 ghost use Rattle.products.specs.Narrow.{Narrow};
 ghost use Rattle.products.specs.Thousandths.{thousandths};
 
-use interval::sign::Ends;
-use slices::{greater, lesser, put_one, put_two};
-use wide::corners::corners;
+use interval::Interval;
+use slices::{put_one, put_two};
+use wide::corners::{corners, extremes};
 use wide::spread::{Range, spread_of};
-use words::{milli, wrapping_mul};
+use words::milli;
 
 // The range of products: MIN and MAX, divided by 1000.
 const LEAST: i64 = -9223372036854775;
@@ -34,68 +34,45 @@ fn put_thousandths(out: &mut [i64], range: Range) -> usize
     }
 }
 
-// [s,e] times [t,f], of any length.
-fn mul_wide(out: &mut [i64], s: i64, e: i64, t: i64, f: i64) -> usize
+// left times right, of any length.
+fn mul_wide(out: &mut [i64], left: Interval, right: Interval) -> usize
     requires { 4 ≤ length out.old }
-    ensures { Wrote result (mul_pair s e t f) out.new out.old }
+    ensures { Wrote result (mul_pair left.lo left.hi right.lo right.hi) out.new out.old }
 {
-    let c = corners(s, e, t, f);
-    let p = c.least;
-    let q = c.greatest;
-    put_thousandths(out, spread_of(p, q))
+    let (least, greatest) = corners(left.lo, left.hi, right.lo, right.hi);
+    put_thousandths(out, spread_of(least, greatest))
 }
 
-// The least and the greatest corner of narrow intervals.
-fn narrow_corners(s: i64, e: i64, t: i64, f: i64) -> Ends
-    requires first_narrow { Narrow s e }
-    requires second_narrow { Narrow t f }
-    ensures { (result.lo ≡ least_corner ◌*ℤ◌ s e t f) × (result.hi ≡ greatest_corner ◌*ℤ◌ s e t f) }
-{
-    let a = wrapping_mul(s, t);
-    let b = wrapping_mul(s, f);
-    let c = wrapping_mul(e, t);
-    let d = wrapping_mul(e, f);
-    let lo = lesser(lesser(a, b), lesser(c, d));
-    let hi = greater(greater(a, b), greater(c, d));
-    Ends { lo, hi }
-}
-
-// [s,e] times [t,f], both narrow.
-fn mul_narrow(out: &mut [i64], s: i64, e: i64, t: i64, f: i64) -> usize
-    requires first_narrow { Narrow s e }
-    requires second_narrow { Narrow t f }
+// left times right, both narrow.
+fn mul_narrow(out: &mut [i64], left: Interval, right: Interval) -> usize
+    requires first_narrow { Narrow left.lo left.hi }
+    requires second_narrow { Narrow right.lo right.hi }
     requires room { 4 ≤ length out.old }
-    ensures { Wrote result (mul_pair s e t f) out.new out.old }
+    ensures { Wrote result (mul_pair left.lo left.hi right.lo right.hi) out.new out.old }
 {
-    let c = narrow_corners(s, e, t, f);
-    put_one(out, milli(c.lo), milli(c.hi))
+    let a = left.lo * right.lo;
+    let b = left.lo * right.hi;
+    let c = left.hi * right.lo;
+    let d = left.hi * right.hi;
+    let (least, greatest) = extremes(a, b, c, d);
+    put_one(out, milli(least), milli(greatest))
 }
 
-// Whether [s,e] is narrow: its ends are at most 2^31 from 0.
-fn narrow(s: i64, e: i64) -> bool
-    ensures { result ≡ (le_z (negsuc 2147483647) s && le_z e (pos 2147483648)) }
+// Whether an interval is narrow: its ends are at most 2^31 from 0.
+fn narrow(numbers: Interval) -> bool
+    ensures { result ≡ (le_z (negsuc 2147483647) numbers.lo && le_z numbers.hi (pos 2147483648)) }
 {
-    if -2147483648 <= s {
-        e <= 2147483648
-    } else {
-        false
-    }
+    -2147483648 <= numbers.lo && numbers.hi <= 2147483648
 }
 
-// [s,e] times [t,f].
-pub fn mul_pair(out: &mut [i64], s: i64, e: i64, t: i64, f: i64) -> usize
-    requires first_proper { Proper s e }
-    requires second_proper { Proper t f }
-    requires room { 4 ≤ length out.old }
-    ensures { Wrote result (mul_pair s e t f) out.new out.old }
+// left times right.
+pub fn mul_pair(out: &mut [i64], left: Interval, right: Interval) -> usize
+    requires { 4 ≤ length out.old }
+    ensures { Wrote result (mul_pair left.lo left.hi right.lo right.hi) out.new out.old }
 {
-    if narrow(s, e) {
-        if narrow(t, f) {
-            mul_narrow(out, s, e, t, f)
-        } else {
-            mul_wide(out, s, e, t, f)
-        }
+    if narrow(left) && narrow(right) {
+        mul_narrow(out, left, right)
     } else {
-        mul_wide(out, s, e, t, f)
+        mul_wide(out, left, right)
     }
 }

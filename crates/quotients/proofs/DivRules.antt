@@ -46,12 +46,6 @@ hull_room a b t f h = room_two (least_corner wrapped_quotient a b t f) (greatest
 pub plain_room : (a b t f : ℤ) {n : ℕ} → length (flat (div_plain a b t f)) ≤ n → 2 ≤ n
 plain_room a b t f h = room_two (least_corner quot_z a b t f) (greatest_corner quot_z a b t f) h
 
--- any two hulls are as long
-pub hull_if_room : {k j : Bool} (s e t f a b u v : ℤ) {n : ℕ} → k ≡ j → length (flat (cond j (div_plain a b u v) [])) ≤ n → length (flat (cond k (hull s e t f) [])) ≤ n
-unfolding hull flat
-hull_if_room {j = true} s e t f a b u v {n = n} q h = subst (λ (x : Bool). length (flat (cond x (hull s e t f) [])) ≤ n) (sym q) h
-hull_if_room {j = false} s e t f a b u v {n = n} q h = subst (λ (x : Bool). length (flat (cond x (hull s e t f) [])) ≤ n) (sym q) h
-
 -- in a plain case each corner quotient fits, so it is its own wrapped value
 pub hull_plain : {s e t f : ℤ} → Plain s e t f → hull s e t f ≡ div_plain s e t f
 unfolding hull least_corner greatest_corner
@@ -73,15 +67,17 @@ past_part b t f = cond (lt_z MIN b) (div_plain AFTER b t f) []
 abbrev pub short_part : ℤ → ℤ → ℤ → List Interval
 short_part a b t = cond (lt_z t (negsuc 0)) (div_plain a b t (negsuc 1)) []
 
--- ---- a spread piece D = [a,b]
-
-module _ {a b t f : ℤ} (o : Proper a b) (r : t ≤ℤ f) (z : within t (pos 0) f ≡ false) where
+-- the ends of a divisor are not 0
+module _ {t f : ℤ} (r : t ≤ℤ f) (z : within t (pos 0) f ≡ false) where
   pub start_nonzero : t ≢ pos 0
   start_nonzero e = ⊎_elim (λ q. absurd (omega (zarith, q, e))) (λ q. absurd (omega (zarith, q, r, e))) (one_sign z)
 
   pub end_nonzero : f ≢ pos 0
   end_nonzero e = ⊎_elim (λ q. absurd (omega (zarith, q, r, e))) (λ q. absurd (omega (zarith, q, e))) (one_sign z)
 
+-- ---- a spread piece D = [a,b]
+
+module _ {a b t f : ℤ} (o : Proper a b) (r : t ≤ℤ f) (z : within t (pos 0) f ≡ false) where
   module _ (e : (within a MIN b && within t (negsuc 0) f) ≡ true) where
     first_low : a ≤ℤ MIN
     first_low = (from_within a MIN b (and_both (within a MIN b) (within t (negsuc 0) f) e).0).above
@@ -159,13 +155,6 @@ module _ (s e t f : ℤ) where
   pub pair_plain : within t (pos 0) f ≡ false → div_part s e t f ≡ div_pair s e t f
   unfolding div_pair
   pair_plain z = sym (ap (each (div_part s e)) (without_none (pos 0) t f z) ∙ each_single (div_part s e) t f)
-
--- what is left below 0, and above it
-pub below_zero : {t : ℤ} → lt_z t (pos 0) ≡ true → (t ≤ℤ negsuc 0) × (within t (pos 0) (negsuc 0) ≡ false)
-below_zero {t} h = (omega zarith, above_out t (omega zarith))
-
-pub above_zero : {f : ℤ} → lt_z (pos 0) f ≡ true → (pos 1 ≤ℤ f) × (within (pos 1) (pos 0) f ≡ false)
-above_zero {f} h = (omega zarith, below_out f (omega zarith))
 
 pub div_room : {s e t f : ℤ} {n : ℕ} → Proper s e → Proper t f → 24 ≤ n → length (flat (div_pair s e t f)) ≤ n
 div_room {s} {e} {t} {f} o q h = omega (arith, length_flat (div_pair s e t f), div_few o q)

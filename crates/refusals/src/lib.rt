@@ -1,38 +1,101 @@
-// The numbers of document 01's table of refusals, and of its findings, under the names of meaning/specs/Refusals.
+// Why a call, a text or a line is not answered: the rows of the table of refusals and findings, each with its number.
 #![tactic(auto)]
 
-// A set: odd length or not normal.
-pub const NOT_NORMAL: u8 = 1;
+ghost use Rattle.std.specs.Prelude.{◌≡◌};
+ghost use Rattle.refusals.specs.Numbers.{number_of, Numbered};
 
-// A set: over 16 intervals.
-pub const TOO_MANY: u8 = 2;
+// A row of the table.
+#[derive(Clone, Copy, Debug, PartialEq, Eq)]
+pub enum Cause {
+    // A set: odd length or not normal.
+    NotNormal,
 
-// A lent slice is shorter than its call needs.
-pub const TOO_SHORT: u8 = 3;
+    // A set: over 16 intervals.
+    TooMany,
 
-// An answer is longer than out.
-pub const NO_ROOM: u8 = 4;
+    // A lent slice is shorter than its call needs.
+    TooShort,
 
-// A text: over 256 lines, a line over 120 bytes, the last LF missing.
-pub const MISSHAPEN: u8 = 5;
+    // An answer is longer than out.
+    NoRoom,
 
-// A line: outside the grammar.
-pub const UNGRAMMATICAL: u8 = 6;
+    // A text: over 256 lines, a line over 120 bytes, the last LF missing.
+    Misshapen,
 
-// A line: a literal beyond MIN..MAX.
-pub const FAR_LITERAL: u8 = 7;
+    // A line: outside the grammar.
+    Ungrammatical,
 
-// A line: `in` after another kind, or a second one for a register.
-pub const MISPLACED: u8 = 8;
+    // A line: a literal beyond MIN..MAX.
+    FarLiteral,
 
-// Nearest, within: the set is empty.
-pub const EMPTY_SET: u8 = 10;
+    // A line: `in` after another kind, or a second one for a register.
+    Misplaced,
 
-// Check and run: a divisor may be 0, or is 0.
-pub const ZERO_DIVISOR: u8 = 20;
+    // Nearest, within: the set is empty.
+    EmptySet,
 
-// Check and run: a hold's register has a value outside.
-pub const HOLD_BROKEN: u8 = 21;
+    // Check and run: a divisor may be 0, or is 0.
+    ZeroDivisor,
 
-// The run: a lent number is outside its `in`.
-pub const OUTSIDE_IN: u8 = 22;
+    // Check and run: a hold's register has a value outside.
+    HoldBroken,
+
+    // The run: a lent number is outside its `in`.
+    OutsideIn,
+}
+
+impl From<Cause> for u8 {
+    ghost from_gives = { λ cause number. number ≡ number_of cause };
+
+    fn from(cause: Cause) -> u8 {
+        match cause {
+            Cause::NotNormal => 1,
+            Cause::TooMany => 2,
+            Cause::TooShort => 3,
+            Cause::NoRoom => 4,
+            Cause::Misshapen => 5,
+            Cause::Ungrammatical => 6,
+            Cause::FarLiteral => 7,
+            Cause::Misplaced => 8,
+            Cause::EmptySet => 10,
+            Cause::ZeroDivisor => 20,
+            Cause::HoldBroken => 21,
+            Cause::OutsideIn => 22,
+        }
+    }
+}
+
+// A number that no row has.
+#[derive(Clone, Copy, Debug, PartialEq, Eq)]
+pub struct UnknownNumber(pub u8);
+
+impl TryFrom<u8> for Cause {
+    type Error = UnknownNumber;
+
+    ghost try_from_gives = { Numbered };
+
+    fn try_from(number: u8) -> Result<Self, UnknownNumber> {
+        match number {
+            1 => Ok(Cause::NotNormal),
+            2 => Ok(Cause::TooMany),
+            3 => Ok(Cause::TooShort),
+            4 => Ok(Cause::NoRoom),
+            5 => Ok(Cause::Misshapen),
+            6 => Ok(Cause::Ungrammatical),
+            7 => Ok(Cause::FarLiteral),
+            8 => Ok(Cause::Misplaced),
+            10 => Ok(Cause::EmptySet),
+            20 => Ok(Cause::ZeroDivisor),
+            21 => Ok(Cause::HoldBroken),
+            22 => Ok(Cause::OutsideIn),
+            _ => Err(UnknownNumber(number)),
+        }
+    }
+}
+
+// What ends a call on a text, and at which line: a refusal of its arguments or its text, or what stops a line that is worked. Line 0 is the whole text or the lent slices.
+#[derive(Clone, Copy, Debug, PartialEq, Eq)]
+pub enum Trouble {
+    Refused(Cause, usize),
+    Stopped(Cause, usize),
+}

@@ -3,6 +3,7 @@ use borrow.Author.Tests.{le-leb, lt-leb, eq-eqb, ne_eqb}
 use lib.IntN.{ℤ, pos, neg_ℤ, nat_abs, ◌-ℤ◌}
 use lib.ListN.{length}
 use lib.Signed.{lt_z, ◌≤ℤ◌, ≤ℤ_refl}
+use mathlib.Core.Logic.{◌≢◌}
 use mathlib.Core.Path.{◌≡◌, refl, sym, ap, ap₂, ◌∙◌}
 use mathlib.Core.Bool.{Bool, true, false, cond}
 use mathlib.Core.List.{[], ◌++◌, append-nil}
@@ -24,6 +25,15 @@ use Rattle.slices.proofs.Lent.{first_room}
 -- ---- L against {MIN}
 
 module _ (s e : ℤ) where
+  -- MIN is in [s,e] just where s is MIN
+  pub least_in : SFits w64 e → s ≡ MIN → within s MIN e ≡ true
+  unfolding within
+  least_in f h = grind (zarith, num f, h)
+
+  pub least_out : SFits w64 s → s ≢ MIN → within s MIN e ≡ false
+  unfolding within
+  least_out f h = grind (zarith, num f, h)
+
   pub against_more : within s MIN e ≡ true → lt_z MIN e ≡ true → span MIN (pos 0) ≡ against s e
   unfolding against
   against_more h k = rw (h, k)
@@ -48,15 +58,13 @@ module _ (s e : ℤ) where
 
 -- ---- magnitudes
 
-pub magnitude_of : (x : ℤ) {n : ℕ} → pos n ≡ pos 0 -ℤ x → x ≤ℤ pos 0 → n ≡ nat_abs x
-magnitude_of x e h = omega (zarith, sub_parts (pos 0) x, abs_parts x, one_part x)
-
-pub magnitude_is : (x : ℤ) {n : ℕ} → pos n ≡ x -ℤ pos 0 → pos 0 ≤ℤ x → n ≡ nat_abs x
-magnitude_is x e h = omega (zarith, sub_parts x (pos 0), abs_parts x, one_part x)
-
 -- least and greatest magnitude of an interval without 0
 pub some_magnitude : {t f : ℤ} → t ≤ℤ f → within t (pos 0) f ≡ false → (0 < least_magnitude t f) × (least_magnitude t f ≤ greatest_magnitude t f) × (0 < greatest_magnitude t f)
 some_magnitude {t} {f} h n = let m = magnitudes (one_sign n) (between (≤ℤ_refl t) h) in omega (arith, m.some)
+
+-- the magnitudes of two ends, as the machine reads them back
+pub magnitudes_read : (g : ℤ → ℤ → ℕ) {n : ℕ} {s e : ℤ} → SFits w64 s → SFits w64 e → n ≡ g (rd s) (rd e) → n ≡ g s e
+magnitudes_read g f h k = k ∙ (λ i. g (to_z-of_z f i) (to_z-of_z h i))
 
 pub magnitude_top : (t f : ℤ) → SFits w64 t → SFits w64 f → greatest_magnitude t f ≤ 2 ^ 63
 magnitude_top t f g h = omega (arith, num g, num h, abs_parts t, abs_parts f, one_part t, one_part f)
@@ -119,8 +127,3 @@ magnitudes_room negated a b c d {n} =
     (λ _ _ _ h. signed_room negated 0 (b % c) (first_room (signed_span negated 0 (b % c)) [] n h))
     (λ _ _ _ h. signed_room negated 0 (b % c) (first_room (signed_span negated 0 (b % c)) (signed_span negated (a % c) (c - 1)) n h))
     (λ _ _ _ h. signed_room negated (a % c) (b % c) h)
-
--- ---- the least or the greatest of two magnitudes, as the calls give them
-
-pub magnitudes_read : (op : ℕ → ℕ → ℕ) {m a b : ℕ} {x y : ℤ} → m ≡ op a b → a ≡ nat_abs (rd x) → b ≡ nat_abs (rd y) → SFits w64 x → SFits w64 y → m ≡ op (nat_abs x) (nat_abs y)
-magnitudes_read op m a b f g = m ∙ ap₂ op (a ∙ ap nat_abs (to_z-of_z f)) (b ∙ ap nat_abs (to_z-of_z g))

@@ -2,24 +2,23 @@
 // whose magnitude no i64 has, and L = {MIN}.
 #![tactic(auto)]
 
-ghost use Rattle.std.specs.Prelude.{◌≡◌, false, ◌^◌, ◌≤◌, ◌<◌, min, max, length, pos, neg_ℤ, nat_abs, ◌-ℤ◌, ◌≤ℤ◌};
-ghost use Rattle.meaning.specs.Number.{within};
-ghost use Rattle.meaning.specs.Interval.{span, against, greatest_magnitude, signed_span, rem_magnitudes, rule_f};
+ghost use Rattle.std.specs.Prelude.{◌≡◌, ◌^◌, ◌≤◌, ◌<◌, length, pos, ◌-ℤ◌};
+ghost use Rattle.meaning.specs.Interval.{span, against, least_magnitude, greatest_magnitude, signed_span, rem_magnitudes, rule_f};
 ghost use Rattle.meaning.specs.NumberIntervals.{flat};
 ghost use Rattle.slices.specs.Wrote.{Wrote};
 
-use interval::pieces::{holds, less};
+use interval::divisor::Divisor;
 use number::MIN;
 use slices::put_one;
-use words::distance;
 
-// L against {MIN}: L itself, or {0} if L = {MIN}, or [MIN,0] if L holds MIN and more.
+// [s,e] against {MIN}: [s,e] itself, or {0} if it is {MIN}, or [MIN,0] if it holds MIN and more.
+// Kept: two ends in place of an interval, since it asks nothing of their order.
 pub fn put_against(out: &mut [i64], s: i64, e: i64) -> usize
     requires { 2 ≤ length out.old }
     ensures { Wrote result (against s e) out.new out.old }
 {
-    if holds(s, MIN, e) {
-        if less(MIN, e) {
+    if s == MIN {
+        if MIN < e {
             put_one(out, MIN, 0)
         } else {
             put_one(out, 0, 0)
@@ -29,61 +28,36 @@ pub fn put_against(out: &mut [i64], s: i64, e: i64) -> usize
     }
 }
 
-// The magnitude of x.
-fn magnitude(x: i64) -> u64
-    ensures { result ≡ nat_abs x }
+// The magnitudes from the least to the greatest.
+#[derive(Clone, Copy, Debug, PartialEq, Eq)]
+struct Magnitudes {
+    least: u64,
+    greatest: u64,
+    ghost ordered: { least ≤ greatest },
+}
+
+// The magnitudes of the ends s and e.
+fn magnitudes_of(s: i64, e: i64) -> Magnitudes
+    ensures { (result.least ≡ least_magnitude s e) × (result.greatest ≡ greatest_magnitude s e) }
 {
-    if x < 0 {
-        distance(x, 0)
-    } else {
-        distance(0, x)
+    let a = s.unsigned_abs();
+    let b = e.unsigned_abs();
+    Magnitudes {
+        least: a.min(b),
+        greatest: a.max(b),
     }
 }
 
-// The smaller of two magnitudes.
-fn low_of(a: u64, b: u64) -> u64
-    ensures { result ≡ min a b }
+// [1-d,0], where d is the greatest magnitude in right.
+pub fn put_under(out: &mut [i64], right: Divisor) -> usize
+    requires { 2 ≤ length out.old }
+    ensures { Wrote result (span (pos 1 -ℤ pos (greatest_magnitude right.numbers.lo right.numbers.hi)) (pos 0)) out.new out.old }
 {
-    if a <= b { a } else { b }
+    let d = magnitudes_of(right.numbers.lo, right.numbers.hi).greatest;
+    put_one(out, -((d - 1) as i64), 0)
 }
 
-// The larger of two magnitudes.
-fn high_of(a: u64, b: u64) -> u64
-    ensures { result ≡ max a b }
-{
-    if a <= b { b } else { a }
-}
-
-// n as a number.
-fn plus(n: u64) -> i64
-    requires { n < 2 ^ 63 }
-    ensures { result ≡ pos n }
-{
-    n as i64
-}
-
-// n negated.
-fn minus(n: u64) -> i64
-    requires { n < 2 ^ 63 }
-    ensures { result ≡ neg_ℤ (pos n) }
-{
-    let x = n as i64;
-    -x
-}
-
-// [1-d,0], where d is the greatest magnitude in R.
-pub fn put_under(out: &mut [i64], t: i64, f: i64) -> usize
-    requires second_ordered { t ≤ℤ f }
-    requires no_zero { within t (pos 0) f ≡ false }
-    requires room { 2 ≤ length out.old }
-    ensures { Wrote result (span (pos 1 -ℤ pos (greatest_magnitude t f)) (pos 0)) out.new out.old }
-{
-    let d = high_of(magnitude(t), magnitude(f));
-    let a = minus(d - 1);
-    put_one(out, a, 0)
-}
-
-// The magnitudes from l to h, negated if L is negative.
+// The magnitudes from l to h, negated if the dividend is negative.
 fn put_signed(out: &mut [i64], negated: bool, l: u64, h: u64) -> usize
     requires low_fits { l < 2 ^ 63 }
     requires high_fits { h < 2 ^ 63 }
@@ -91,28 +65,27 @@ fn put_signed(out: &mut [i64], negated: bool, l: u64, h: u64) -> usize
     ensures { Wrote result (signed_span negated l h) out.new out.old }
 {
     if negated {
-        let a = minus(h);
-        let b = minus(l);
-        put_one(out, a, b)
+        put_one(out, -(h as i64), -(l as i64))
     } else {
-        let a = plus(l);
-        let b = plus(h);
-        put_one(out, a, b)
+        put_one(out, l as i64, h as i64)
     }
 }
 
-// The remainders of magnitudes [a,b] by [c,d].
-fn put_magnitudes(out: &mut [i64], negated: bool, a: u64, b: u64, c: u64, d: u64) -> usize
-    requires first_ordered { a ≤ b }
-    requires second_positive { 0 < c }
-    requires second_ordered { c ≤ d }
-    requires second_fits { d ≤ 2 ^ 63 }
-    requires room { length (flat (rem_magnitudes negated a b c d)) ≤ length out.old }
-    ensures { Wrote result (rem_magnitudes negated a b c d) out.new out.old }
+// The remainders of the magnitudes left by the magnitudes right.
+fn put_magnitudes(out: &mut [i64], negated: bool, left: Magnitudes, right: Magnitudes) -> usize
+    requires second_positive { 0 < right.least }
+    requires second_fits { right.greatest ≤ 2 ^ 63 }
+    requires room { length (flat (rem_magnitudes negated left.least left.greatest right.least right.greatest)) ≤ length out.old }
+    ensures { Wrote result (rem_magnitudes negated left.least left.greatest right.least right.greatest) out.new out.old }
 {
+    let a = left.least;
+    let b = left.greatest;
+    let c = right.least;
+    let d = right.greatest;
     if d <= b - a {
         return put_signed(out, negated, 0, d - 1);
     }
+    // Kept: two tests in place of one with `||`, each a case of the definition.
     if c < d {
         return put_signed(out, negated, 0, d - 1);
     }
@@ -129,23 +102,13 @@ fn put_magnitudes(out: &mut [i64], negated: bool, a: u64, b: u64, c: u64, d: u64
 }
 
 // (f)
-pub fn put_remainders(out: &mut [i64], s: i64, e: i64, t: i64, f: i64) -> usize
-    requires second_ordered { t ≤ℤ f }
-    requires no_zero { within t (pos 0) f ≡ false }
-    requires room { length (flat (rule_f s e t f)) ≤ length out.old }
-    ensures { Wrote result (rule_f s e t f) out.new out.old }
+// Kept: two ends in place of an interval, since it asks nothing of their order.
+pub fn put_remainders(out: &mut [i64], s: i64, e: i64, right: Divisor) -> usize
+    requires { length (flat (rule_f s e right.numbers.lo right.numbers.hi)) ≤ length out.old }
+    ensures { Wrote result (rule_f s e right.numbers.lo right.numbers.hi) out.new out.old }
 {
-    let i = magnitude(s);
-    let j = magnitude(e);
-    let k = magnitude(t);
-    let l = magnitude(f);
-    let negated = less(s, 0);
-    put_magnitudes(
-        out,
-        negated,
-        low_of(i, j),
-        high_of(i, j),
-        low_of(k, l),
-        high_of(k, l),
-    )
+    let negated = s < 0;
+    let l = magnitudes_of(s, e);
+    let r = magnitudes_of(right.numbers.lo, right.numbers.hi);
+    put_magnitudes(out, negated, l, r)
 }

@@ -1,204 +1,132 @@
-// Stored cases: numbers read from a file, slices filled and compared, and a line of report for each operation. What a file holds is open: a call that reads
-// one promises at most whether there is room for it.
+// Stored cases: numbers read from a file, a call replayed on each case of it, and a line of report. What a file holds is open: a function that reads one
+// promises at most whether there is room for it.
 #![tactic(auto)]
 
-ghost use Rattle.std.specs.Prelude.{◌≡◌, true, false, cond, ◌≤◌, leb, eqb, length, replicate};
-ghost use Rattle.meaning.specs.Lists.{over};
-ghost use Rattle.replay.specs.Tallied.{more as one_more, tallied};
+ghost use Rattle.std.specs.Prelude.{◌≡◌, ◌≤◌, leb, length, is_some, IfSome, OnSome, None};
+ghost use Rattle.replay.specs.Tallied.{tallied};
 
+use std::fs;
 use std::io::Read;
+use std::rt::Files;
 
-// Reads until b is full, the file ends or a read fails, and returns how many bytes it put at the front of b.
-pub fn read_full<F: Read>(file: &mut F, b: &mut [u8]) -> usize
-    ensures { result ≤ length b.new }
-{
-    let mut at = 0;
-    while at < b.len() {
-        match file.read(&mut b[at..]) {
-            Ok(0) => return at,
-            Ok(n) => at += n,
-            Err(_) => return at,
-        }
-    }
-    at
-}
+// More numbers than any slice of a case has.
+pub const ROOM: usize = 8256;
+
+// More cases than a file has: a proved loop has to end, and nothing says that a file does.
+const CASES: u64 = 1000000;
 
 // The next number of the file; bytes past its end read as 0.
 pub fn read_number<F: Read>(file: &mut F) -> i64 {
-    let mut b = [0u8; 8];
-    read_full(file, &mut b);
-    stored::number_in(&b)
-}
-
-// 8,256 zeros, more than any call needs. The `ensures` gives only the length, which lending the array as a slice needs.
-pub fn numbers() -> [i64; 8256]
-    ensures { 8256 ≡ length result }
-{
-    [0; 8256]
+    let mut bytes = [0u8; 8];
+    let _ = file.read_exact(&mut bytes);
+    stored::number_in(&bytes)
 }
 
 // As many numbers of the file as s has places.
 pub fn read_numbers<F: Read>(file: &mut F, s: &mut [i64]) {
-    let mut i = 0;
-    while i < s.len() {
-        s[i] = read_number(file);
-        i += 1;
+    for x in s.iter_mut() {
+        *x = read_number(file);
     }
 }
 
-// The next n numbers of the file, at the front of s; false if s is too short.
-pub fn read_front<F: Read>(file: &mut F, s: &mut [i64], n: usize) -> bool
-    ensures { result ≡ leb n (length s.old) }
+// The next n numbers of the file, at the front of s; none if s is too short.
+pub fn read_front<'a, F: Read>(file: &mut F, s: &'a mut [i64], n: usize) -> Option<&'a mut [i64]>
+    ensures fits { is_some result ≡ leb n (length s.old) }
+    ensures len { IfSome result (λ part. length part.now ≡ n) }
 {
     if n > s.len() {
-        return false;
+        return None;
     }
-    read_numbers(file, &mut s[..n]);
-    true
+    let numbers = &mut s[..n];
+    read_numbers(file, numbers);
+    Some(numbers)
 }
 
-// The next n bytes of the file, at the front of s; false if s or the file is too short.
-pub fn read_bytes<F: Read>(file: &mut F, s: &mut [u8], n: usize) -> bool
-    ensures { result ≡ true → n ≤ length s.old }
+// The next n bytes of the file, at the front of s; none if s or the file is too short.
+pub fn read_bytes<'a, F: Read>(file: &mut F, s: &'a mut [u8], n: usize) -> Option<&'a mut [u8]>
+    ensures fits { OnSome result (n ≤ length s.old) }
+    ensures len { IfSome result (λ part. length part.now ≡ n) }
 {
     if n > s.len() {
-        return false;
+        return None;
     }
-    read_full(file, &mut s[..n]) == n
+    let bytes = &mut s[..n];
+    file.read_exact(bytes).ok()?;
+    Some(bytes)
 }
 
-// Every place of s becomes v.
-pub fn fill(s: &mut [i64], v: i64)
-    ensures { s.new ≡ replicate (length s.old) v }
-{
-    let mut i = 0;
-    while i < s.len() {
-        s[i] = v;
-        i += 1;
-    }
-}
-
-// The first n places of s become v; false if s is too short.
-pub fn fill_front(s: &mut [i64], n: usize, v: i64) -> bool
-    ensures value { result ≡ leb n (length s.old) }
-    ensures s_after { s.new ≡ cond result (over (replicate n v) s.old) s.old }
-{
-    if n > s.len() {
-        return false;
-    }
-    fill(&mut s[..n], v);
-    true
-}
-
-// Whether a and b hold the same numbers.
-pub fn same(a: &[i64], b: &[i64]) -> bool
-    ensures { (result ≡ true → a.now ≡ b.now) × (a.now ≡ b.now → result ≡ true) }
-{
-    if a.len() != b.len() {
-        return false;
-    }
-    let mut i = 0;
-    while i < a.len() {
-        let x = a[i];
-        let y = b[i];
-        if x != y {
-            return false;
-        }
-        i += 1;
-    }
-    true
-}
-
-// What replaying one case found: the file has no more, or the case agrees, or differs.
-#[derive(Clone, Copy)]
-pub enum Step {
-    End,
-    Agrees,
-    Differs,
-}
-
-// How many cases were replayed, how many of them differ, and the number of the first that does, counted from 1. `open` says whether the file has more.
-#[derive(Clone, Copy)]
+// How many cases were replayed, how many of them differ, and the number of the first that does, counted from 1.
+#[derive(Clone, Copy, Debug, Default, PartialEq, Eq)]
 pub struct Tally {
-    pub open: bool,
     pub cases: u64,
     pub differ: u64,
-    pub first: u64,
-}
-
-// One more than n, but for the greatest number.
-fn more(n: u64) -> u64
-    ensures { result ≡ one_more n }
-{
-    if n < u64::MAX { n + 1 } else { n }
-}
-
-// The number of the first case that differs: the last, unless one differed before.
-fn first_of(differ: u64, before: u64, last: u64) -> u64
-    ensures { result ≡ cond (eqb differ 0) last before }
-{
-    if differ == 0 { last } else { before }
+    pub first: Option<u64>,
 }
 
 impl Tally {
     pub fn new() -> Self
-        ensures { (result.open ≡ true) × (result.cases ≡ 0) × (result.differ ≡ 0) × (result.first ≡ 0) }
+        ensures cases { result.cases ≡ 0 }
+        ensures differ { result.differ ≡ 0 }
+        ensures first { result.first ≡ None }
     {
-        Tally {
-            open: true,
-            cases: 0,
-            differ: 0,
-            first: 0,
+        Tally::default()
+    }
+
+    // With one case more, which agrees or differs.
+    pub fn counted(mut self, agrees: bool) -> Self
+        ensures { result ≡ tallied agrees self }
+    {
+        self.cases = self.cases.saturating_add(1);
+        if !agrees {
+            self.differ = self.differ.saturating_add(1);
+            self.first = self.first.or(Some(self.cases));
         }
-    }
-
-    // The file has no more.
-    pub fn closed(mut self) -> Self
-        ensures { (result.open ≡ false) × (result.cases ≡ self.cases) × (result.differ ≡ self.differ) × (result.first ≡ self.first) }
-    {
-        self.open = false;
         self
-    }
-
-    // One case more, which agrees.
-    pub fn agreed(mut self) -> Self
-        ensures { (result.open ≡ self.open) × (result.cases ≡ one_more self.cases) × (result.differ ≡ self.differ) × (result.first ≡ self.first) }
-    {
-        self.cases = more(self.cases);
-        self
-    }
-
-    // One case more, which differs.
-    pub fn differed(mut self) -> Self
-        ensures { (result.open ≡ self.open) × (result.cases ≡ one_more self.cases) × (result.differ ≡ one_more self.differ) × (result.first ≡ cond (eqb self.differ 0) (one_more self.cases) self.first) }
-    {
-        self.cases = more(self.cases);
-        self.first = first_of(self.differ, self.first, self.cases);
-        self.differ = more(self.differ);
-        self
-    }
-
-    // With one case more.
-    pub fn counted(self, step: Step) -> Self
-        ensures { result ≡ tallied step self }
-    {
-        match step {
-            Step::End => self.closed(),
-            Step::Agrees => self.agreed(),
-            Step::Differs => self.differed(),
-        }
     }
 }
 
+// All cases of a file: `next` reads one and says whether it agrees, or answers none if the file has no more.
+pub fn replay_cases<F: Read, A: Fn(&mut F) -> Option<bool>>(file: &mut F, next: A) -> Tally
+    requires { A.IsAlwaysCallable next }
+    ensures { result.differ ≤ result.cases }
+{
+    let mut tally = Tally::new();
+    for _ in 0..CASES {
+        match next(file) {
+            Some(agrees) => tally = tally.counted(agrees),
+            None => break,
+        }
+    }
+    tally
+}
+
 // Writes "NAME CASES ok", or "NAME CASES differ: N, the first is K", and the end of the line. What cannot be written is left out.
-pub fn report<R: Print>(rt: &R, name: &[u8], t: Tally) {
+pub fn report<R: Print>(rt: &R, name: &[u8], tally: Tally) {
     let _ = rt.write_all(name);
-    if t.differ == 0 {
-        let _ = println!(rt; " {} ok", t.cases);
-    } else {
-        let _ = println!(rt;
-            " {} differ: {}, the first is {}",
-            t.cases, t.differ, t.first
-        );
+    let _ = match tally.first {
+        None => println!(rt; " {} ok", tally.cases),
+        Some(first) => {
+            println!(rt;
+                " {} differ: {}, the first is {first}",
+                tally.cases, tally.differ
+            )
+        }
+    };
+}
+
+// Replays the cases of one file, and reports under a name; or says on standard error why the file cannot be opened.
+pub fn replay_file<R: Files + Print + Eprint, A: Fn(&mut R::File) -> Option<bool>>(
+    rt: &R,
+    path: &str,
+    name: &str,
+    next: A,
+)
+    requires { A.IsAlwaysCallable next }
+{
+    match fs::open(rt, path) {
+        Ok(mut file) => report(rt, name.as_bytes(), replay_cases(&mut file, next)),
+        Err(e) => {
+            let _ = eprintln!(rt; "{path}: {e}");
+        }
     }
 }

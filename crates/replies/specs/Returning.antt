@@ -1,27 +1,20 @@
--- A call's reply and document 01's number, count and flag, and what a call returns and leaves, in one word. Assumes nothing.
-use Rattle.std.specs.Prelude.{eqb, ℤ, ◌≡◌, Bool, cond, List, [], ℕ}
+-- What a set call returns, in the words of `meaning`, and what it returns and leaves, in one word. Assumes nothing.
+use Rattle.std.specs.Prelude.{ℤ, ◌≡◌, Bool, List, [], ℕ, Result, Ok, Err}
 use Rattle.meaning.specs.NumberIntervals.{Set}
 use Rattle.meaning.specs.SetCalls.{Returned, written, refused, call_returns, call_out, call_work}
-use Rattle.replies.specs.declared.Reply.{Reply}
-use Rattle.replies.specs.declared.Reply.TheVariants.{Written, Refused}
+use Rattle.refusals.specs.declared.Cause.{Cause}
+use Rattle.refusals.specs.Numbers.{number_of}
+use Rattle.replies.specs.declared.Written.{Written}
 
--- what a reply says
-abbrev pub returned : Reply → Returned
-returned (Written n flag) = written n flag
-returned (Refused k) = refused k
+-- what an answer says: number 0, the count and the flag, or the number of the refusal
+abbrev pub returned : Result Written Cause → Returned
+returned (Ok w) = written w.count w.flag
+returned (Err cause) = refused (number_of cause)
 
--- the reply for it: number 0 is success, and the reply says just what a call returns (`returned_reply` of proofs/Said.antt)
-abbrev pub reply_for : Returned → Reply
-reply_for x = cond (eqb x.number 0) (Written x.count x.flag) (Refused x.number)
-
--- its case goes by its number: 0 is written, any other refused
-abbrev pub Cased : Reply → Type 0
-Cased r = r ≡ reply_for (returned r)
-
--- the three equations of a contract; `r`, `o` and `w` are what the call returned and left
-abbrev pub Ended : (k need : ℕ) → Set → Bool → (out work : List ℤ) → (r : Reply) (o w : List ℤ) → Type 0
-Ended k need answer flag out work r o w = (r ≡ reply_for (call_returns k need answer flag out work)) × (o ≡ call_out k need answer flag out work) × (w ≡ call_work k need answer flag out work)
+-- the three equations of a contract; `r` says what the call returned, `o` and `w` are what it left
+abbrev pub Ended : (k need : ℕ) → Set → Bool → (out work : List ℤ) → (r : Returned) (o w : List ℤ) → Type 0
+Ended k need answer flag out work r o w = (r ≡ call_returns k need answer flag out work) × (o ≡ call_out k need answer flag out work) × (w ≡ call_work k need answer flag out work)
 
 -- a call that takes no work
-abbrev pub Handed : (k need : ℕ) → Set → Bool → (out : List ℤ) → (r : Reply) (o : List ℤ) → Type 0
-Handed k need answer flag out r o = (r ≡ reply_for (call_returns k need answer flag out [])) × (o ≡ call_out k need answer flag out [])
+abbrev pub Handed : (k need : ℕ) → Set → Bool → (out : List ℤ) → (r : Returned) (o : List ℤ) → Type 0
+Handed k need answer flag out r o = (r ≡ call_returns k need answer flag out []) × (o ≡ call_out k need answer flag out [])

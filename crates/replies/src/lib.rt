@@ -1,49 +1,47 @@
-// What the public set calls share: their reply, the refusal of their arguments, the need of work, and the end of the call.
+// What the public set calls share: what they answer, the refusal of their arguments, the need of work, and the end of the call.
 #![tactic(auto)]
 
-ghost use Rattle.std.specs.Prelude.{◌≡◌, cond, ◌*◌, ◌/◌, ◌≤◌, ltb, length, take, replicate, pos};
+ghost use Rattle.std.specs.Prelude.{◌≡◌, cond, ◌*◌, ◌/◌, ◌≤◌, ltb, length, take, replicate, pos, OnOk};
 ghost use Rattle.meaning.specs.Lists.{over};
 ghost use Rattle.meaning.specs.Refusals.{no_room};
 ghost use Rattle.meaning.specs.SetCalls as call;
+ghost use Rattle.refusals.specs.Endings.{code_of};
 ghost use Rattle.sets.specs.Sets.{Argument};
-ghost use Rattle.replies.specs.Returning.{reply_for};
+ghost use Rattle.replies.specs.Returning.{returned};
 
 use limits::ENDS;
-use refusals::{NO_ROOM, NOT_NORMAL, TOO_MANY};
+use refusals::Cause;
 use sets::is_normal;
-use slices::{copy_front, zero_first};
 
-// How many numbers were written, and the flag; or the number of the refusal.
-#[derive(Clone, Copy)]
-pub enum Reply {
-    Written(usize, bool),
-    Refused(u8),
+// How many numbers a set call wrote, and the flag of its answer.
+#[derive(Clone, Copy, Debug, PartialEq, Eq)]
+pub struct Written {
+    pub count: usize,
+    pub flag: bool,
 }
 
-// 2 where a set has over 16 intervals, else 1 where it is not normal, else 0.
-pub fn refusal(s: &[i64]) -> u8
-    ensures refused { result ≡ call.refusal s.now }
-    ensures argument { (result ≡ 0 → Argument s.now) }
+// Refuses a set of over 16 intervals, and then one that is not normal. Out of line, so that the loop over the set has its registers for itself.
+#[inline(never)]
+pub fn accept(s: &[i64]) -> Result<(), Cause>
+    ensures refused { code_of result ≡ call.refusal s.now }
+    ensures argument { OnOk result (Argument s.now) }
 {
     if ENDS < s.len() {
-        return TOO_MANY;
+        return Err(Cause::TooMany);
     }
-    if is_normal(s) {
-        return 0;
+    if !is_normal(s) {
+        return Err(Cause::NotNormal);
     }
-    NOT_NORMAL
+    Ok(())
 }
 
-// The left set's refusal before the right set's.
-pub fn refusal2(left: &[i64], right: &[i64]) -> u8
-    ensures refused { result ≡ call.refusal2 left.now right.now }
-    ensures arguments { (result ≡ 0 → Argument left.now × Argument right.now) }
+// Refuses the left set before the right set.
+pub fn accept_both(left: &[i64], right: &[i64]) -> Result<(), Cause>
+    ensures refused { code_of result ≡ call.refusal2 left.now right.now }
+    ensures arguments { OnOk result (Argument left.now × Argument right.now) }
 {
-    let k = refusal(left);
-    if k == 0 {
-        return refusal(right);
-    }
-    k
+    accept(left)?;
+    accept(right)
 }
 
 // The need of work, 2·k·n·m numbers for n and m intervals; here n and m are how many numbers the sets have.
@@ -54,27 +52,33 @@ pub fn need(k: usize, n: usize, m: usize) -> usize
     2 * k * (n / 2) * (m / 2)
 }
 
-// The first count numbers of work to out; 4 where it has no room for them.
-pub fn hand_out(out: &mut [i64], work: &[i64], count: usize, flag: bool) -> Reply
+// The first count numbers of work to out, if it has room for them.
+pub fn hand_out(out: &mut [i64], work: &[i64], count: usize, flag: bool) -> Result<Written, Cause>
     requires { count ≤ length work.now }
-    ensures { (result ≡ reply_for (cond (ltb (length out.old) count) (call.refused no_room) (call.written count flag)))
+    ensures { (returned result ≡ cond (ltb (length out.old) count) (call.refused no_room) (call.written count flag))
         × (out.new ≡ cond (ltb (length out.old) count) out.old (over (take count work.now) out.old)) }
 {
     if out.len() < count {
-        return Reply::Refused(NO_ROOM);
+        return Err(Cause::NoRoom);
     }
-    copy_front(out, work, count);
-    Reply::Written(count, flag)
+    out[..count].copy_from_slice(&work[..count]);
+    Ok(Written { count, flag })
 }
 
 // The same, and then the first need numbers of work become 0.
-pub fn finish(out: &mut [i64], work: &mut [i64], need: usize, count: usize, flag: bool) -> Reply
+pub fn finish(
+    out: &mut [i64],
+    work: &mut [i64],
+    need: usize,
+    count: usize,
+    flag: bool,
+) -> Result<Written, Cause>
     requires { (count ≤ need) × (need ≤ length work.old) }
-    ensures { (result ≡ reply_for (cond (ltb (length out.old) count) (call.refused no_room) (call.written count flag)))
+    ensures { (returned result ≡ cond (ltb (length out.old) count) (call.refused no_room) (call.written count flag))
         × (out.new ≡ cond (ltb (length out.old) count) out.old (over (take count work.old) out.old))
         × (work.new ≡ over (replicate need (pos 0)) work.old) }
 {
-    let r = hand_out(out, work, count, flag);
-    zero_first(work, need);
-    r
+    let answer = hand_out(out, work, count, flag);
+    work[..need].fill(0);
+    answer
 }

@@ -1,80 +1,64 @@
-// The run of a sheet (01, "Plain run"): one number a register, line after line.
+// The run of a sheet: one number a register, line after line.
 // The lent numbers are copied first: they are the state at the start, and an `in` reads them as they were lent, whatever is written afterwards.
 #![tactic(auto)]
 
-ghost use Rattle.std.specs.Prelude.{◌≡◌, ◌≤◌, length};
+ghost use Rattle.std.specs.Prelude.{◌≡◌, ◌<◌, ◌≤◌, ℕ, length, MatchOption};
+ghost use Rattle.meaning.specs.Outcome.{work as work_lines};
 ghost use Rattle.meaning.specs.Sheet.{registers};
 ghost use Rattle.meaning.specs.Lists.{All};
 ghost use Rattle.meaning.specs.Number.{InRange};
-ghost use Rattle.meaning.specs.Run.{start_numbers, run_text, left_by};
+ghost use Rattle.meaning.specs.Run.{run_line, start_numbers};
 ghost use Rattle.sheet.specs.Judging.{IsSheet};
-ghost use Rattle.run.specs.Answer.{answer_for, Ran};
+ghost use Rattle.run.specs.Answer.{Worked, Ran};
 
 use limits::REGISTERS;
-use refusals::TOO_SHORT;
-use run_lines::{Step, run_line};
-use sheet::{Judgement, judge_text, line_end};
-use slices::copy_front;
+use refusals::{Cause, Trouble};
+use run_lines::run_line;
+use sheet::{Lines, judge_text};
 
-// Done with the count of lines, stopped at a line, or refused.
-#[derive(Clone, Copy)]
-pub enum Answer {
-    Done(usize),
-    Stopped(u8, usize),
-    Refused(u8, usize),
-}
-
-// The numbers lent for the registers, which are from MIN to MAX.
-fn lent_numbers(lent: &[i64]) -> [i64; REGISTERS]
-    requires { registers ≤ length lent.now }
-    ensures value { result ≡ start_numbers lent.now }
-    ensures in_range { All InRange (start_numbers lent.now) }
+// The numbers lent for the registers, which are from MIN to MAX; none if there are fewer.
+fn lent_numbers(lent: &[i64]) -> Option<[i64; REGISTERS]>
+    ensures { MatchOption result
+        (length lent.now < registers)
+        (λ numbers. (registers ≤ length lent.now) × (numbers ≡ start_numbers lent.now) × All InRange (start_numbers lent.now)) }
 {
+    if lent.len() < REGISTERS {
+        return None;
+    }
     let mut numbers = [0; REGISTERS];
-    let mut i = 0;
-    while i < REGISTERS {
-        let x = lent[i];
-        numbers[i] = x;
-        i += 1;
+    // Kept: a number that is read is known to be from MIN to MAX; of those of a copied slice no contract says so.
+    for i in 0..REGISTERS {
+        numbers[i] = lent[i];
     }
-    numbers
+    Some(numbers)
 }
 
-// The lines of a sheet, with its count of lines.
-fn work(text: &[u8], lent: &mut [i64], count: usize) -> Answer
-    requires enough { registers ≤ length lent.old }
-    requires sheet { IsSheet text.now count }
-    ensures value { result ≡ answer_for (run_text lent.old text.now) }
-    ensures lent_after { lent.new ≡ left_by lent.old (run_text lent.old text.now) }
-    ensures in_range { All InRange (start_numbers lent.old) }
+// The lines of a sheet on the state: their count, or the line that stops the run.
+fn work(
+    text: &[u8],
+    lent: &[i64; REGISTERS],
+    state: &mut [i64; REGISTERS],
+) -> Result<usize, Trouble>
+    ensures { (n : ℕ) (sheet : IsSheet text.now n) → Worked n result state.new (work_lines (run_line lent.now) 1 state.old sheet.lines) }
 {
-    let given = lent_numbers(lent);
-    let mut state = given;
-    let mut n: usize = 0;
-    let mut at = 0;
-    while at < text.len() {
-        let e = line_end(text, at);
-        n += 1;
-        let step = run_line(&text[at..e], &given, &mut state);
-        if let Step::Stop(k) = step {
-            copy_front(lent, &state, REGISTERS);
-            return Answer::Stopped(k, n);
-        }
-        at = e + 1;
+    let mut count = 0;
+    for line in Lines::of(text) {
+        count += 1;
+        run_line(line, lent, state).map_err(|cause| Trouble::Stopped(cause, count))?;
     }
-    copy_front(lent, &state, REGISTERS);
-    Answer::Done(count)
+    Ok(count)
 }
 
 // The run of any bytes on the numbers lent for the registers.
-pub fn run(text: &[u8], lent: &mut [i64]) -> Answer
+pub fn run(text: &[u8], lent: &mut [i64]) -> Result<usize, Trouble>
     ensures { Ran text.now lent.old result lent.new }
 {
-    if lent.len() < REGISTERS {
-        return Answer::Refused(TOO_SHORT, 0);
-    }
-    match judge_text(text) {
-        Judgement::Fine(n) => work(text, lent, n),
-        Judgement::Refused(k, n) => Answer::Refused(k, n),
-    }
+    let Some(numbers) = lent_numbers(lent) else {
+        return Err(Trouble::Refused(Cause::TooShort, 0));
+    };
+    judge_text(text)?;
+    let mut state = numbers;
+    let ended = work(text, &numbers, &mut state);
+    lent[..REGISTERS].copy_from_slice(&state);
+    ended
 }

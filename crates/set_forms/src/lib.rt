@@ -1,119 +1,72 @@
-// The set of a form straight from its bytes (01, "Sheet"): left argument, right, form. The form reader and the argument reader call each other, and the brackets left fall.
+// The set of a form straight from its bytes: left argument, right, form.
 #![tactic(auto)]
 
-ghost use Rattle.std.specs.Prelude.{◌≡◌, ◌≤◌, length};
-ghost use Rattle.meaning.specs.Reading.{bad, closed as closed_at, arg as arg_at, form as form_at};
-ghost use Rattle.set_values.specs.Value.{Shown, values};
-ghost use Rattle.set_forms.specs.Read.{read_of};
+ghost use Rattle.std.specs.Prelude.{◌≡◌};
+ghost use Rattle.meaning.specs.Outcome.{Res};
+ghost use Rattle.meaning.specs.NumberIntervals.{Set};
+ghost use Rattle.meaning.specs.Reading.{map_got, arg as arg_at};
+ghost use Rattle.literals.specs.Answer.{got_of};
+ghost use Rattle.set_values.specs.Value.{result_of, sets_of, values};
 
-use forms::Head;
-use literals::{Literal, Register};
-use refusals::UNGRAMMATICAL;
-use set_values::SetV;
+use forms::{Algebra, Op1, Op2, read_arg};
+use interval::Interval;
+use limits::WORK;
+use literals::Got;
+use refusals::Cause;
+use set_values::{FormSet, Registers, apply1, apply2};
 
-// What is read: whether it is in the grammar, how many bytes it takes, and its set.
-#[derive(Clone, Copy)]
-pub struct SetRead {
-    pub good: bool,
-    pub next: usize,
-    pub value: SetV,
+// What forms come to on the registers' sets, worked in a lent slice.
+#[derive(Drop)]
+struct Sets<'a> {
+    registers: &'a Registers,
+    work: &'a mut [i64; WORK],
 }
 
-// Outside the grammar; such a line is refused before its sets are worked.
-fn unread() -> SetRead
-    ensures { read_of result ≡ bad }
-{
-    let v = set_values::stopped(UNGRAMMATICAL);
-    SetRead {
-        good: false,
-        next: 0,
-        value: v,
+impl Algebra for Sets<'_> {
+    type Value = Result<FormSet, Cause>;
+
+    ghost Meaning = { Res Set };
+
+    ghost meaning = { result_of };
+
+    ghost algebra = { λ s. values (sets_of s.registers.now) };
+
+    // A literal beyond MIN..MAX, which no line of a sheet has, counts as 0.
+    #[tactic(auto, using(literals::proofs::Literals::kept_is))]
+    fn literal(&mut self, z: Option<i64>) -> Result<FormSet, Cause> {
+        let only = z.unwrap_or(0);
+        Ok(FormSet::from(Interval { lo: only, hi: only }))
     }
-}
 
-// A set that takes n bytes.
-fn taken(n: usize, v: SetV) -> SetRead
-    ensures { read_of result ≡ Rattle.meaning.specs.Reading.got v n }
-{
-    SetRead {
-        good: true,
-        next: n,
-        value: v,
+    fn register(&mut self, r: usize) -> Result<FormSet, Cause> {
+        Ok(self.registers.set(r))
     }
-}
 
-// The closing bracket at i.
-fn closed(text: &[u8], i: usize, v: SetV) -> SetRead
-    requires { i ≤ 18446744073709551614 }
-    ensures { read_of result ≡ closed_at text.now i v }
-{
-    if literals::at(text, i) == b')' {
-        taken(i + 1, v)
-    } else {
-        unread()
+    #[tactic(auto, unfolding(set_values::specs::Value::answer1, meaning::specs::Outcome::bind))]
+    fn one(&mut self, op: Op1, a: Result<FormSet, Cause>) -> Result<FormSet, Cause> {
+        apply1(op, a?, self.work)
+    }
+
+    // The left argument's trouble comes first.
+    #[tactic(auto, unfolding(set_values::specs::Value::answer2, meaning::specs::Outcome::bind))]
+    fn two(
+        &mut self,
+        op: Op2,
+        a: Result<FormSet, Cause>,
+        b: Result<FormSet, Cause>,
+    ) -> Result<FormSet, Cause> {
+        apply2(op, a?, b?, self.work)
     }
 }
 
 // The set of an argument, with `depth` brackets left: of a form if it opens a bracket, else of a literal.
-#[cycle(working)]
-pub fn set_arg(text: &[u8], depth: usize, regs: &[i64], work: &mut [i64]) -> SetRead
-    requires { Shown regs.now × (8192 ≤ length work.old) }
-    ensures { read_of result ≡ arg_at (values regs.now) depth text.now }
+pub fn set_arg(
+    text: &[u8],
+    depth: usize,
+    registers: &Registers,
+    work: &mut [i64; WORK],
+) -> Option<Got<Result<FormSet, Cause>>>
+    ensures { map_got result_of (got_of result) ≡ arg_at (values (sets_of registers.now)) depth text.now }
 {
-    if literals::at(text, 0) == b'(' {
-        if depth == 0 {
-            unread()
-        } else {
-            set_form(text, depth - 1, regs, work)
-        }
-    } else {
-        match literals::read_literal(text) {
-            Literal::Is(z, _, n) => taken(n, set_values::one_interval(z, z)),
-            Literal::Bad => unread(),
-        }
-    }
-}
-
-// The set of a form, with `depth` brackets left inside its own. The second argument's text starts in the middle of the form's.
-#[cycle(working)]
-fn set_form(text: &[u8], depth: usize, regs: &[i64], work: &mut [i64]) -> SetRead
-    requires { Shown regs.now × (8192 ≤ length work.old) }
-    ensures { read_of result ≡ form_at (values regs.now) depth text.now }
-{
-    let k = forms::start(text);
-    match forms::read_head(text) {
-        Head::Reg => match literals::read_register(literals::tail(text, k)) {
-            Register::Is(r, n) => closed(text, k + n, set_values::register_set(regs, r)),
-            Register::None => unread(),
-        },
-        Head::One(op) => {
-            let a = set_arg(literals::tail(text, k), depth, regs, work);
-            if !a.good {
-                return a;
-            }
-            let n = a.next;
-            let v = a.value;
-            closed(text, k + n, set_values::apply1(op, v, work))
-        }
-        Head::Two(op) => {
-            let a = set_arg(literals::tail(text, k), depth, regs, work);
-            if !a.good {
-                return a;
-            }
-            let n = a.next;
-            if literals::at(text, k + n) != b' ' {
-                return unread();
-            }
-            let j = k + n + 1;
-            let b = set_arg(&text[j..], depth, regs, work);
-            if !b.good {
-                return b;
-            }
-            let m = b.next;
-            let v = a.value;
-            let w = b.value;
-            closed(text, j + m, set_values::apply2(op, v, w, work))
-        }
-        Head::None => unread(),
-    }
+    read_arg(text, depth, &mut Sets { registers, work })
 }

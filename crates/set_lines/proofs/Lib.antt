@@ -1,3 +1,3 @@
--- Laws of the lines.
-pub mod Giving
+-- Laws of one line.
+pub mod Bounds
 pub mod Lines

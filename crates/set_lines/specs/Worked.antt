@@ -1,21 +1,19 @@
--- What a line does to the numbers that show the sets, in the words of `meaning`. Assumes nothing.
-use Rattle.std.specs.Prelude.{ℤ, pos, take, drop, ◌≡◌, Bool, cond, List, ◌∷◌, ◌++◌, ℕ, ◌+◌, ◌*◌}
+-- What a line does to the registers' sets, in the words of `meaning`. Assumes nothing.
+use Rattle.std.specs.Prelude.{Bool, cond, List, ℕ, Result, Ok, Err}
 use Rattle.meaning.specs.Refusals.{ungrammatical, hold_broken}
 use Rattle.meaning.specs.Outcome.{Res, ok, stop, bind}
+use Rattle.meaning.specs.NumberIntervals.{Set}
 use Rattle.meaning.specs.Reading.{Got, got, bad, read_line}
-use Rattle.meaning.specs.Check.{Bands, check_line, slot_size, layout, interval_limit}
-use Rattle.meaning.specs.CheckSets.{SoundBands}
-use Rattle.set_values.specs.Value.{value_of}
-use Rattle.set_values.specs.declared.SetV.{SetV}
+use Rattle.meaning.specs.Check.{Bands, check_line, interval_limit}
+use Rattle.refusals.specs.declared.Cause.{Cause}
+use Rattle.refusals.specs.Numbers.{number_of}
+use Rattle.set_values.specs.declared.registers.Registers.{Registers}
+use Rattle.set_values.specs.Value.{bands_of}
 
--- the numbers after register r took a set
-unfoldable pub given : ℕ → SetV → List ℤ → List ℤ
-given r v l = take (slot_size * r) l ++ ((pos v.count ∷ v.ends) ++ drop (slot_size * r + slot_size) l)
-
--- the set of a put's argument
-abbrev pub put_value : Got SetV → SetV
+-- the result of a put's argument
+abbrev pub put_value : Got (Res Set) → Res Set
 put_value (got v n) = v
-put_value bad = value_of (stop ungrammatical)
+put_value bad = stop ungrammatical
 
 -- the number of a hold: `held` says whether no value is outside
 abbrev pub hold_number : Bool → ℕ
@@ -25,7 +23,7 @@ hold_number held = cond held 0 hold_broken
 unfoldable pub line_check : Bands → List ℕ → Res Bands
 line_check B s = bind (read_line s) (check_line interval_limit B)
 
--- what the numbers show before and after a line whose answer is k: 0 if it is worked
-pub record Worked (k : ℕ) (after before : List ℤ) (s : List ℕ) : Type 0 where
-  pub goes : k ≡ 0 → (B : Bands) → SoundBands interval_limit B → before ≡ layout B.sets → (B' : Bands) × (line_check B s ≡ ok B') × (after ≡ layout B'.sets)
-  pub stops : (k ≡ 0 → ⊥) → (B : Bands) → SoundBands interval_limit B → before ≡ layout B.sets → line_check B s ≡ stop k
+-- what a line leaves: the registers' sets, or the number of its trouble
+abbrev pub line_left : Result (Unit {0}) Cause → Registers → Res Bands
+line_left (Ok u) registers = ok (bands_of registers)
+line_left (Err cause) registers = stop (number_of cause)

@@ -2,7 +2,7 @@
 use mathlib.Core.Path.{◌≡◌, refl, ap, ◌∙◌}
 use mathlib.Core.Bool.{Bool, false}
 use mathlib.Core.List.{List}
-use mathlib.Core.Option.{some}
+use Rattle.std.specs.Prelude.{Some}
 use Prim.Native.Nat.{ℕ, ◌≤◌}
 use native.Mathlib.Omega.{arith}
 use lib.IntN.{ℤ, pos}
@@ -26,7 +26,7 @@ use Rattle.set_values.proofs.Settling.{left_cored}
 left_as : {s t : Set} {f g : Bool} {new : List ℤ} {c : Core} → s ≡ t → f ≡ g → Left s f new c → Left t g new c
 left_as p q h = rw (← p, ← q) h
 
-joined_is : (o : Op) (p : Op2) → kind_of (Joined o) ≡ some p → (flag : Bool) (a b : Set) → (set_of o a b ≡ set2 p a b) × (flag_of o flag a b ≡ flag2 p flag a b)
+joined_is : (o : Op) (p : Op2) → kind_of (Joined o) ≡ Some p → (flag : Bool) (a b : Set) → (set_of o a b ≡ set2 p a b) × (flag_of o flag a b ≡ flag2 p flag a b)
 joined_is Neg p e flag a b = let z : ◌≡◌ {A = ℕ} 0 1 = cc in absurd (omega arith)
 joined_is Abs p e flag a b = let z : ◌≡◌ {A = ℕ} 0 1 = cc in absurd (omega arith)
 joined_is Add p e flag a b = let q : add ≡ p = cc in rw (← q) (refl, refl)
@@ -43,7 +43,7 @@ module _ (o : Op) (l m : List ℤ) (a : Argument l) (b : Argument m) where
     answered : Left (set_of o (intervals l) (intervals m)) (flag_of o false (intervals l) (intervals m)) new c
     answered = left_cored h (need_le w) n
 
-    pub joined_left : {p : Op2} → kind_of (Joined o) ≡ some p → Left (set2 p (intervals l) (intervals m)) (flag2 p false (intervals l) (intervals m)) new c
+    pub joined_left : {p : Op2} → kind_of (Joined o) ≡ Some p → Left (set2 p (intervals l) (intervals m)) (flag2 p false (intervals l) (intervals m)) new c
     joined_left {p} e = let is = joined_is o p e false (intervals l) (intervals m) in left_as is.0 is.1 answered
 
 pub alone_left : {o : Op} {p : Op1} → Alone o p → (l : List ℤ) → Argument l → {old new : List ℤ} → 8192 ≤ length old → length new ≡ length old → {c : Core}
@@ -53,11 +53,11 @@ alone_left {o} d l a w n h =
     let is = alone_is d false (intervals l) (intervals (replicate 2 (pos 0))) in
     left_as is.0 is.1 (answered o l (replicate 2 (pos 0)) a zero_argument w n h)
 
-op_is : {x y : Op2} → some x ≡ some y → x ≡ y
+op_is : {x y : Op2} → Some x ≡ Some y → x ≡ y
 op_is e = cc
 
 module _ (a b : Set) {new : List ℤ} {c : Core} where
-  pub related_left : (o : Relation) {p : Op2} → kind_of (Related o) ≡ some p → {s : Set} → s ≡ of_bools (relation_of o a b) → Left s false new c → Left (set2 p a b) (flag2 p false a b) new c
+  pub related_left : (o : Relation) {p : Op2} → kind_of (Related o) ≡ Some p → {s : Set} → s ≡ of_bools (relation_of o a b) → Left s false new c → Left (set2 p a b) (flag2 p false a b) new c
   related_left o {p} e f h =
       let is = relation_is o false a b in
       let q = op_is e in

@@ -1,5 +1,5 @@
--- Laws of the values.
+-- Laws of the sets of forms.
 pub mod Cores
+pub mod Layouts
+pub mod Sets
 pub mod Settling
-pub mod Shows
-pub mod Values

@@ -1,4 +1,4 @@
-pub mod Giving
-pub mod Refusing
-pub mod Turns
 pub mod Windows
+pub mod Turns
+mod Filled
+mod Giving

@@ -1,21 +1,22 @@
 -- What two normal sets have in common, by one walk over both: the interval that ends first is left behind. Assumes nothing.
-use mathlib.Core.Path.{◌≡◌, refl, sym, ap, ◌∙◌}
+use mathlib.Core.Path.{◌≡◌, refl, sym, ap, subst, ◌∙◌}
 use mathlib.Core.Logic.{◌⊎◌, inl, inr, ⊎_elim}
 use mathlib.Core.List.{List, [], ◌∷◌, ◌++◌, append_assoc, append-nil}
 use mathlib.Core.Bool.{Bool, true, false, cond}
-use Prim.Native.Nat.{ℕ, ◌+◌, ◌≤◌, ◌<◌}
+use Prim.Native.Nat.{ℕ, ◌+◌, ◌-◌, ◌≤◌, ◌<◌}
 use native.Mathlib.Omega.{arith}
-use lib.ListN.{length, take, drop, length-drop, drop_of_length-le, take-append-drop}
-use lib.Seq.{length-take-le}
+use lib.ListN.{length, take, drop, length-drop, take-append-drop}
+use lib.Seq.{length-take-le, take_all}
 use lib.IntN.{ℤ}
 use lib.Signed.{le_z}
+use Rattle.std.specs.Int.{int_max}
 use Rattle.meaning.specs.Lists.{over}
-use Rattle.meaning.specs.Number.{larger}
+use Rattle.meaning.specs.Number.{larger, smaller}
 use Rattle.meaning.specs.NumberIntervals.{flat, intervals, intersect}
-use Rattle.laws.proofs.Integers.{le_z_false, le_z_true}
+use Rattle.laws.proofs.Integers.{by_test, le_z_false, le_z_true}
 use Rattle.laws.proofs.Machine.{rd}
 use Rattle.sorting.specs.Order.{In, Le, Lt, Valid, put_pair, valid}
-use Rattle.sorting.proofs.Ends.{Gap, valid_yes, valid_pair, After, NormalEnds, larger_parts}
+use Rattle.sorting.proofs.Ends.{Gap, valid_yes, After, NormalEnds, larger_parts, max_is}
 use Rattle.sorting.proofs.Steps.{end_at, drop_two, put_pair_length, put_pair_take, put_pair_drop, drop_later}
 use Rattle.slices.specs.Wrote.{Wrote}
 use Rattle.sets.specs.Sets.{SetEnds}
@@ -51,21 +52,13 @@ module _ (s e : ℤ) (l : List ℤ) (c d : ℤ) (r : List ℤ) where
       go false p u q true w = h (le_z_false e d p) (le_z_true (larger s c) d w)
       go false p u q false w = k (le_z_false e d p) (le_z_false (larger s c) d w)
 
-  pub cross_left_out : le_z e d ≡ true → le_z (larger s c) e ≡ true → cross (s ∷ e ∷ l) (c ∷ d ∷ r) ≡ larger s c ∷ e ∷ cross l (c ∷ d ∷ r)
-  unfolding cross
-  cross_left_out p q = rw (p, q)
+  -- what a turn writes, and what it leaves to be done
+  pub cross_rest : List ℤ
+  cross_rest = cond (le_z e d) (cross l (c ∷ d ∷ r)) (cross (s ∷ e ∷ l) r)
 
-  pub cross_left : le_z e d ≡ true → le_z (larger s c) e ≡ false → cross (s ∷ e ∷ l) (c ∷ d ∷ r) ≡ cross l (c ∷ d ∷ r)
-  unfolding cross
-  cross_left p q = rw (p, q)
-
-  pub cross_right_out : le_z e d ≡ false → le_z (larger s c) d ≡ true → cross (s ∷ e ∷ l) (c ∷ d ∷ r) ≡ larger s c ∷ d ∷ cross (s ∷ e ∷ l) r
-  unfolding cross
-  cross_right_out p q = rw (p, q)
-
-  pub cross_right : le_z e d ≡ false → le_z (larger s c) d ≡ false → cross (s ∷ e ∷ l) (c ∷ d ∷ r) ≡ cross (s ∷ e ∷ l) r
-  unfolding cross
-  cross_right p q = rw (p, q)
+  cross_turn : cross (s ∷ e ∷ l) (c ∷ d ∷ r) ≡ cond (le_z (larger s c) (smaller e d)) (larger s c ∷ smaller e d ∷ cross_rest) cross_rest
+  unfolding cross cross_rest
+  cross_turn = by_test (le_z e d) (λ t. rw t refl) (λ t. rw t refl)
 
 -- the larger of two starts
 not_below_left : (s c : ℤ) → Le s (larger s c)
@@ -199,181 +192,140 @@ walked l r a b =
 
 -- ---- the loop
 
-pub record Crossing (l r old new : List ℤ) (i j at : ℕ) : Type 0 where
-  pub room : length l + length r ≤ length old
-  pub left : i ≤ length l
-  pub right : j ≤ length r
-  pub place : at ≤ i + j
+cross_short : (l r : List ℤ) → length l < 2 → cross l r ≡ []
+unfolding cross
+cross_short [] r h = refl
+cross_short (s ∷ []) r h = refl
+cross_short (s ∷ e ∷ l) r h = absurd (omega arith)
+
+cross_none : (l r : List ℤ) → length r < 2 → cross l r ≡ []
+unfolding cross
+cross_none [] r h = refl
+cross_none (s ∷ []) r h = refl
+cross_none (s ∷ e ∷ l) [] h = refl
+cross_none (s ∷ e ∷ l) (c ∷ []) h = refl
+cross_none (s ∷ e ∷ l) (c ∷ d ∷ r) h = absurd (omega arith)
+
+-- what stands before `at` is written, and `rest` is still to come
+pub record Crossing (l r old new rest : List ℤ) (at : ℕ) : Type 0 where
   pub long : length new ≡ length old
   pub kept : drop at new ≡ drop at old
-  pub whole_l : Valid (drop i l)
-  pub whole_r : Valid (drop j r)
-  pub so_far : take at new ++ cross (drop i l) (drop j r) ≡ cross l r
+  pub so_far : take at new ++ rest ≡ cross l r
 
--- the intervals at i and j as a turn reads them, and the larger start
-pub record Turn (l r : List ℤ) (i j : ℕ) (lo : ℤ) : Type 0 where
-  pub some_l : i < length l
-  pub some_r : j < length r
-  pub e_back : rd (end_at l (i + 1)) ≡ end_at l (i + 1)
-  pub d_back : rd (end_at r (j + 1)) ≡ end_at r (j + 1)
-  pub lo_back : rd lo ≡ lo
-  pub lo_is : lo ≡ larger (end_at l i) (end_at r j)
+-- the walk over what is left of both
+pub record Walking (l r old new lefts rights : List ℤ) (at : ℕ) : Type 0 where
+  pub room : at + (length lefts + length rights) ≤ length old
+  pub whole_l : Valid lefts
+  pub whole_r : Valid rights
+  pub step : Crossing l r old new (cross lefts rights) at
 
-pub crossing_start : (l r old : List ℤ) → length l + length r ≤ length old → valid l ≡ true → valid r ≡ true → Crossing l r old old 0 0 0
-crossing_start l r old h v u =
-    record { room = h; left = omega arith; right = omega arith; place = omega arith; long = refl; kept = refl; whole_l = valid_yes l v; whole_r = valid_yes r u; so_far = refl }
+pub walking_start : (l r old : List ℤ) → length l + length r ≤ length old → valid l ≡ true → valid r ≡ true → Walking l r old old l r 0
+walking_start l r old h v u =
+    record { room = omega (arith, h); whole_l = valid_yes l v; whole_r = valid_yes r u; step = record { long = refl; kept = refl; so_far = refl } }
 
-cross_none : (l : List ℤ) → cross l [] ≡ []
-unfolding cross
-cross_none [] = refl
-cross_none (s ∷ []) = refl
-cross_none (s ∷ e ∷ l) = refl
+-- what follows the first interval
+abbrev pub rest_of : List ℤ → List ℤ
+rest_of l = take (length l - 2) (drop 2 l)
 
-module _ {l r old new : List ℤ} {i j at : ℕ} (m : Crossing l r old new i j at) where
-  pub cross_pair_l : i < length l → i + 2 ≤ length l
-  cross_pair_l p = omega (arith, valid_pair (drop i l) m.whole_l (omega (arith, length-drop i l)), length-drop i l)
+first_two : (l : List ℤ) → 2 ≤ length l → l ≡ end_at l 0 ∷ end_at l 1 ∷ rest_of l
+first_two l h = drop_two l 0 h ∙ ap (λ (k : List ℤ). end_at l 0 ∷ end_at l 1 ∷ k) (sym (take_all (length l - 2) (drop 2 l) (omega (arith, length-drop 2 l))))
 
-  pub cross_pair_r : j < length r → j + 2 ≤ length r
-  cross_pair_r p = omega (arith, valid_pair (drop j r) m.whole_r (omega (arith, length-drop j r)), length-drop j r)
+module _ {l r old new ls rs : List ℤ} {at : ℕ} (m : Walking l r old new ls rs at) (p : 2 ≤ length ls) (q : 2 ≤ length rs) where
+  abbrev pub to_come : List ℤ
+  to_come = cross_rest (end_at ls 0) (end_at ls 1) (rest_of ls) (end_at rs 0) (end_at rs 1) (rest_of rs)
 
-  pub cross_room : i < length l → j < length r → at + 2 ≤ length new
-  cross_room p q = omega (arith, cross_pair_l p, cross_pair_r q, m.room, m.place, m.long)
+  two : cross ls rs ≡ cond (le_z (larger (end_at ls 0) (end_at rs 0)) (smaller (end_at ls 1) (end_at rs 1))) (larger (end_at ls 0) (end_at rs 0) ∷ smaller (end_at ls 1) (end_at rs 1) ∷ to_come) to_come
+  two =
+      ap (λ (k : List ℤ). cross k rs) (first_two ls p) ∙ ap (cross (end_at ls 0 ∷ end_at ls 1 ∷ rest_of ls)) (first_two rs q)
+      ∙ cross_turn (end_at ls 0) (end_at ls 1) (rest_of ls) (end_at rs 0) (end_at rs 1) (rest_of rs)
 
-  module _ (p : i < length l) (q : j < length r) where
-    two_l : drop i l ≡ end_at l i ∷ end_at l (i + 1) ∷ drop (i + 2) l
-    two_l = drop_two l i (cross_pair_l p)
+  pub turn_room : at + 2 ≤ length new
+  turn_room = omega (arith, m.room, m.step.long, p)
 
-    two_r : drop j r ≡ end_at r j ∷ end_at r (j + 1) ∷ drop (j + 2) r
-    two_r = drop_two r j (cross_pair_r q)
-
-    both : cross (drop i l) (drop j r) ≡ cross (end_at l i ∷ end_at l (i + 1) ∷ drop (i + 2) l) (end_at r j ∷ end_at r (j + 1) ∷ drop (j + 2) r)
-    both = ap (λ (k : List ℤ). cross k (drop j r)) two_l ∙ ap (cross (end_at l i ∷ end_at l (i + 1) ∷ drop (i + 2) l)) two_r
-
-    wrote : (x y : ℤ) (t : List ℤ) → take (at + 2) (put_pair new at x y) ++ t ≡ take at new ++ x ∷ y ∷ t
-    wrote x y t = ap (λ (k : List ℤ). k ++ t) (put_pair_take new at x y (cross_room p q)) ∙ append_assoc (take at new) (x ∷ y ∷ []) t
-
-    kept_on : (x y : ℤ) → drop (at + 2) (put_pair new at x y) ≡ drop (at + 2) old
-    kept_on x y = put_pair_drop new at x y (cross_room p q) (at + 2) (omega arith) ∙ drop_later new old at (at + 2) m.kept (omega arith)
-
-    crossing_left_out
-        : le_z (end_at l (i + 1)) (end_at r (j + 1)) ≡ true → le_z (larger (end_at l i) (end_at r j)) (end_at l (i + 1)) ≡ true
-        → Crossing l r old (put_pair new at (larger (end_at l i) (end_at r j)) (end_at l (i + 1))) (i + 2) j (at + 2)
-    crossing_left_out a b =
+  -- up to the end that comes first
+  module _ {hi : ℤ} (first : hi ≡ smaller (end_at ls 1) (end_at rs 1)) where
+    -- the common part is written
+    pub crossing_out
+        : le_z (larger (end_at ls 0) (end_at rs 0)) hi ≡ true
+        → Crossing l r old (put_pair new at (larger (end_at ls 0) (end_at rs 0)) hi) to_come (at + 2)
+    crossing_out h =
         record {
-          room = m.room;
-          left = cross_pair_l p;
-          right = m.right;
-          place = omega (arith, m.place);
-          long = put_pair_length new at _ _ (cross_room p q) ∙ m.long;
-          kept = kept_on _ _;
-          whole_l = (rw two_l at m.whole_l).1;
+          long = put_pair_length new at _ _ turn_room ∙ m.step.long;
+          kept = put_pair_drop new at _ _ turn_room (at + 2) (omega arith) ∙ drop_later new old at (at + 2) m.step.kept (omega arith);
+          so_far =
+              ap (λ (k : List ℤ). k ++ to_come) (put_pair_take new at (larger (end_at ls 0) (end_at rs 0)) hi turn_room)
+              ∙ append_assoc (take at new) (larger (end_at ls 0) (end_at rs 0) ∷ hi ∷ []) to_come
+              ∙ ap (λ (k : List ℤ). take at new ++ k) (sym (rw (← first, h) at two))
+              ∙ m.step.so_far;
+        }
+
+    -- nothing is common
+    pub crossing_none : le_z (larger (end_at ls 0) (end_at rs 0)) hi ≡ false → Crossing l r old new to_come at
+    crossing_none h =
+        record { long = m.step.long; kept = m.step.kept; so_far = ap (λ (k : List ℤ). take at new ++ k) (sym (rw (← first, h) at two)) ∙ m.step.so_far }
+
+  module _ {next : List ℤ} {on : ℕ} (x : Crossing l r old next to_come on) (n : on ≤ at + 2) where
+    pub walking_left : le_z (end_at ls 1) (end_at rs 1) ≡ true → Walking l r old next (rest_of ls) rs on
+    unfolding cross_rest
+    walking_left h =
+        record {
+          room = omega (arith, m.room, n, p, ap length (first_two ls p));
+          whole_l = (subst Valid (first_two ls p) m.whole_l).1;
           whole_r = m.whole_r;
-          so_far =
-              wrote _ _ _
-              ∙ ap (λ (k : List ℤ). take at new ++ k)
-              (ap (λ (k : List ℤ). larger (end_at l i) (end_at r j) ∷ end_at l (i + 1) ∷ cross (drop (i + 2) l) k) two_r
-              ∙ sym (cross_left_out _ _ _ _ _ _ a b)
-              ∙ sym both)
-              ∙ m.so_far;
+          step = subst (λ (k : List ℤ). Crossing l r old next (cross (rest_of ls) k) on) (sym (first_two rs q)) (rw h at x);
         }
 
-    crossing_left
-        : le_z (end_at l (i + 1)) (end_at r (j + 1)) ≡ true → le_z (larger (end_at l i) (end_at r j)) (end_at l (i + 1)) ≡ false
-        → Crossing l r old new (i + 2) j at
-    crossing_left a b =
+    pub walking_right : le_z (end_at ls 1) (end_at rs 1) ≡ false → Walking l r old next ls (rest_of rs) on
+    unfolding cross_rest
+    walking_right h =
         record {
-          room = m.room;
-          left = cross_pair_l p;
-          right = m.right;
-          place = omega (arith, m.place);
-          long = m.long;
-          kept = m.kept;
-          whole_l = (rw two_l at m.whole_l).1;
-          whole_r = m.whole_r;
-          so_far =
-              ap (λ (k : List ℤ). take at new ++ k)
-              (ap (cross (drop (i + 2) l)) two_r ∙ sym (cross_left _ _ _ _ _ _ a b) ∙ sym both)
-              ∙ m.so_far;
-        }
-
-    crossing_right_out
-        : le_z (end_at l (i + 1)) (end_at r (j + 1)) ≡ false → le_z (larger (end_at l i) (end_at r j)) (end_at r (j + 1)) ≡ true
-        → Crossing l r old (put_pair new at (larger (end_at l i) (end_at r j)) (end_at r (j + 1))) i (j + 2) (at + 2)
-    crossing_right_out a b =
-        record {
-          room = m.room;
-          left = m.left;
-          right = cross_pair_r q;
-          place = omega (arith, m.place);
-          long = put_pair_length new at _ _ (cross_room p q) ∙ m.long;
-          kept = kept_on _ _;
+          room = omega (arith, m.room, n, q, ap length (first_two rs q));
           whole_l = m.whole_l;
-          whole_r = (rw two_r at m.whole_r).1;
-          so_far =
-              wrote _ _ _
-              ∙ ap (λ (k : List ℤ). take at new ++ k)
-              (ap (λ (k : List ℤ). larger (end_at l i) (end_at r j) ∷ end_at r (j + 1) ∷ cross k (drop (j + 2) r)) two_l
-              ∙ sym (cross_right_out _ _ _ _ _ _ a b)
-              ∙ sym both)
-              ∙ m.so_far;
+          whole_r = (subst Valid (first_two rs q) m.whole_r).1;
+          step = subst (λ (k : List ℤ). Crossing l r old next (cross k (rest_of rs)) on) (sym (first_two ls p)) (rw h at x);
         }
 
-    crossing_right
-        : le_z (end_at l (i + 1)) (end_at r (j + 1)) ≡ false → le_z (larger (end_at l i) (end_at r j)) (end_at r (j + 1)) ≡ false
-        → Crossing l r old new i (j + 2) at
-    crossing_right a b =
-        record {
-          room = m.room;
-          left = m.left;
-          right = cross_pair_r q;
-          place = omega (arith, m.place);
-          long = m.long;
-          kept = m.kept;
-          whole_l = m.whole_l;
-          whole_r = (rw two_r at m.whole_r).1;
-          so_far =
-              ap (λ (k : List ℤ). take at new ++ k)
-              (ap (λ (k : List ℤ). cross k (drop (j + 2) r)) two_l ∙ sym (cross_right _ _ _ _ _ _ a b) ∙ sym both)
-              ∙ m.so_far;
-        }
+  -- the four ends of a turn as the code reads them
+  module _ {lo : ℤ} (f : rd lo ≡ lo) (g : lo ≡ int_max (rd (end_at ls 0)) (rd (end_at rs 0))) (a : rd (end_at ls 0) ≡ end_at ls 0) (b : rd (end_at rs 0) ≡ end_at rs 0)
+      (x : rd (end_at ls 1) ≡ end_at ls 1) (y : rd (end_at rs 1) ≡ end_at rs 1) where
+    start : rd lo ≡ larger (end_at ls 0) (end_at rs 0)
+    start = f ∙ g ∙ max_is (rd (end_at ls 0)) (rd (end_at rs 0)) ∙ (λ i. larger (a i) (b i))
 
-  -- the four ends of a turn, from what the code compared and wrote: b says that the left interval ends first, c that the common part is not empty
-  module _ {lo : ℤ} (t : Turn l r i j lo) where
-    first : {b x : Bool} → b ≡ le_z (rd (end_at l (i + 1))) (rd (end_at r (j + 1))) → b ≡ x → le_z (end_at l (i + 1)) (end_at r (j + 1)) ≡ x
-    first e h = rw (t.e_back, t.d_back) at (sym e ∙ h)
+    module _ (h : le_z (rd (end_at ls 1)) (rd (end_at rs 1)) ≡ true) where
+      ends_left : le_z (end_at ls 1) (end_at rs 1) ≡ true
+      ends_left = rw (x, y) at h
 
-    filled : {y : ℤ} {c x : Bool} → rd y ≡ y → c ≡ le_z (rd lo) (rd y) → c ≡ x → le_z (larger (end_at l i) (end_at r j)) y ≡ x
-    filled k f h = rw (t.lo_back, k, t.lo_is) at (sym f ∙ h)
+      left_first : end_at ls 1 ≡ smaller (end_at ls 1) (end_at rs 1)
+      left_first = let t = ends_left in rw t refl
 
-    put : {y : ℤ} {w : List ℤ} → rd y ≡ y → w ≡ put_pair new at (rd lo) (rd y) → w ≡ put_pair new at (larger (end_at l i) (end_at r j)) y
-    put k z = rw (t.lo_back, k, t.lo_is) at z
+      pub turn_left_out : le_z (rd lo) (rd (end_at ls 1)) ≡ true → {w : List ℤ} → w ≡ put_pair new at (rd lo) (rd (end_at ls 1)) → Walking l r old w (rest_of ls) rs (at + 2)
+      turn_left_out k z = rw (z, start, x) (walking_left (crossing_out left_first (rw (start, x) at k)) (omega arith) ends_left)
 
-    module _ {b c : Bool} (e : b ≡ le_z (rd (end_at l (i + 1))) (rd (end_at r (j + 1)))) where
-      pub turn_left_out : b ≡ true → c ≡ le_z (rd lo) (rd (end_at l (i + 1))) → c ≡ true → {w : List ℤ} → w ≡ put_pair new at (rd lo) (rd (end_at l (i + 1))) → Crossing l r old w (i + 2) j (at + 2)
-      turn_left_out h f k z = rw (put t.e_back z) (crossing_left_out t.some_l t.some_r (first e h) (filled t.e_back f k))
+      pub turn_left : le_z (rd lo) (rd (end_at ls 1)) ≡ false → Walking l r old new (rest_of ls) rs at
+      turn_left k = walking_left (crossing_none left_first (rw (start, x) at k)) (omega arith) ends_left
 
-      pub turn_left : b ≡ true → c ≡ le_z (rd lo) (rd (end_at l (i + 1))) → c ≡ false → Crossing l r old new (i + 2) j at
-      turn_left h f k = crossing_left t.some_l t.some_r (first e h) (filled t.e_back f k)
+    module _ (h : le_z (rd (end_at ls 1)) (rd (end_at rs 1)) ≡ false) where
+      ends_right : le_z (end_at ls 1) (end_at rs 1) ≡ false
+      ends_right = rw (x, y) at h
 
-      pub turn_right_out : b ≡ false → c ≡ le_z (rd lo) (rd (end_at r (j + 1))) → c ≡ true → {w : List ℤ} → w ≡ put_pair new at (rd lo) (rd (end_at r (j + 1))) → Crossing l r old w i (j + 2) (at + 2)
-      turn_right_out h f k z = rw (put t.d_back z) (crossing_right_out t.some_l t.some_r (first e h) (filled t.d_back f k))
+      right_first : end_at rs 1 ≡ smaller (end_at ls 1) (end_at rs 1)
+      right_first = let t = ends_right in rw t refl
 
-      pub turn_right : b ≡ false → c ≡ le_z (rd lo) (rd (end_at r (j + 1))) → c ≡ false → Crossing l r old new i (j + 2) at
-      turn_right h f k = crossing_right t.some_l t.some_r (first e h) (filled t.d_back f k)
+      pub turn_right_out : le_z (rd lo) (rd (end_at rs 1)) ≡ true → {w : List ℤ} → w ≡ put_pair new at (rd lo) (rd (end_at rs 1)) → Walking l r old w ls (rest_of rs) (at + 2)
+      turn_right_out k z = rw (z, start, y) (walking_right (crossing_out right_first (rw (start, y) at k)) (omega arith) ends_right)
 
-  -- one of the two is at its end
-  finished : SetEnds l → SetEnds r → cross (drop i l) (drop j r) ≡ [] → Wrote at (intersect (intervals l) (intervals r)) new old
-  unfolding over
-  finished a b e =
-      let f : take at new ≡ cross l r = sym (append-nil (take at new)) ∙ ap (λ (k : List ℤ). take at new ++ k) (sym e) ∙ m.so_far in
-      let n : at ≡ length (cross l r) = sym (length-take-le at new (omega (arith, m.place, m.left, m.right, m.room, m.long))) ∙ ap length f in
-      let o : new ≡ over (cross l r) old = sym (take-append-drop at new) ∙ ap (λ (k : List ℤ). k ++ drop at new) f ∙ ap (λ (k : List ℤ). cross l r ++ k) (m.kept ∙ ap (λ (k : ℕ). drop k old) n) in
-      let w = walked l r a b in
-      record { count = n ∙ ap length w; left = o ∙ ap (λ (k : List ℤ). over k old) w; room = omega (arith, m.place, m.left, m.right, m.room) }
+      pub turn_right : le_z (rd lo) (rd (end_at rs 1)) ≡ false → Walking l r old new ls (rest_of rs) at
+      turn_right k = walking_right (crossing_none right_first (rw (start, y) at k)) (omega arith) ends_right
 
-  pub crossing_end_l : SetEnds l → SetEnds r → length l ≤ i → Wrote at (intersect (intervals l) (intervals r)) new old
-  unfolding cross
-  crossing_end_l a b h = finished a b (ap (λ (k : List ℤ). cross k (drop j r)) (drop_of_length-le l h))
-
-  pub crossing_end_r : SetEnds l → SetEnds r → length r ≤ j → Wrote at (intersect (intervals l) (intervals r)) new old
-  crossing_end_r a b h = finished a b (ap (cross (drop i l)) (drop_of_length-le r h) ∙ cross_none (drop i l))
+-- one of the two is at its end
+pub walking_done
+    : {l r old new lefts rights : List ℤ} {at : ℕ} → Walking l r old new lefts rights at → SetEnds l → SetEnds r → (length lefts < 2) ⊎ (length rights < 2)
+    → Wrote at (intersect (intervals l) (intervals r)) new old
+unfolding over
+walking_done {l} {r} {old} {new} {lefts} {rights} {at} m a b h =
+    let e : cross lefts rights ≡ [] = ⊎_elim (λ p. cross_short lefts rights p) (λ p. cross_none lefts rights p) h in
+    let f : take at new ≡ cross l r = sym (append-nil (take at new)) ∙ ap (λ (k : List ℤ). take at new ++ k) (sym e) ∙ m.step.so_far in
+    let n : at ≡ length (cross l r) = sym (length-take-le at new (omega (arith, m.room, m.step.long))) ∙ ap length f in
+    let o : new ≡ over (cross l r) old = sym (take-append-drop at new) ∙ ap (λ (k : List ℤ). k ++ drop at new) f ∙ ap (λ (k : List ℤ). cross l r ++ k) (m.step.kept ∙ ap (λ (k : ℕ). drop k old) n) in
+    let w = walked l r a b in
+    record { count = n ∙ ap length w; left = o ∙ ap (λ (k : List ℤ). over k old) w; room = omega (arith, m.room) }

@@ -1,6 +1,7 @@
 pub mod Bridge
+pub mod Chunks
 pub mod Cross
 pub mod Joining
 pub mod Merged
-pub mod Reading
 pub mod Rooms
+pub mod Reading

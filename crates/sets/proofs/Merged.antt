@@ -1,16 +1,14 @@
 -- Two normal sets, merged and joined in one pass: the union. Assumes nothing.
 use mathlib.Core.Path.{◌≡◌, refl, sym, ap, ◌∙◌}
-use mathlib.Core.List.{List, [], ◌∷◌, ◌++◌}
+use mathlib.Core.List.{List, [], ◌∷◌, ◌++◌, append_assoc}
 use mathlib.Core.Bool.{true}
 use Prim.Native.Nat.{ℕ, ◌+◌, ◌-◌, ◌≤◌, ◌<◌}
 use native.Mathlib.Omega.{arith}
-use borrow.Rule.Slice.PartMut.{mid_of, put_mid}
-use lib.ListN.{length, take, drop}
+use borrow.Rule.Slice.PartMut.{put_mid, Post-is}
+use lib.ListN.{length, take, drop, length-append, length-drop}
 use lib.Seq.{length-take-le, take_at, drop_at, take_all}
 use lib.IntN.{ℤ}
-use Rattle.meaning.specs.Lists.{over}
 use Rattle.meaning.specs.NumberIntervals.{flat, intervals, union}
-use Rattle.laws.proofs.Over.{tail_drop, tail_length, tail_take, tail_whole}
 use Rattle.sorting.specs.Order.{Swept, Valid, join_sorted, merge, valid}
 use Rattle.sorting.proofs.Ends.{valid_yes}
 use Rattle.sets.specs.Sets.{SetEnds, United}
@@ -27,24 +25,27 @@ none (s ∷ e ∷ l) r v u h = absurd (omega (arith, h))
 pub united_none : (l r : List ℤ) → valid l ≡ true → valid r ≡ true → length l + length r < 2 → [] ≡ join_sorted (merge l r)
 united_none l r v u h = none l r (valid_yes l v) (valid_yes r u) h
 
--- right stands behind the first n numbers
-module _ (w right ys : List ℤ) (n : ℕ) (h : n + length right ≤ length w) (e : ys ≡ over (take (length right) right) (mid_of n (length w - n) w)) where
-  all : take (length right) right ≡ right
-  all = take_all (length right) right (omega arith)
+-- right is copied behind the first n numbers
+module _ (w right ys : List ℤ) (n : ℕ) (h : n + length right ≤ length w) (e : ys ≡ right) where
+  placed : put_mid n (n + length right - n) w ys ≡ (take n w ++ right) ++ drop (n + length right) w
+  placed =
+      ap (λ (x : List ℤ). take n w ++ (ys ++ x)) (Post-is n (n + length right) w (omega arith))
+      ∙ ap (λ (x : List ℤ). take n w ++ (x ++ drop (n + length right) w)) e
+      ∙ sym (append_assoc (take n w) right (drop (n + length right) w))
 
-  placed : put_mid n (length w - n) w ys ≡ take n w ++ over right (drop n w)
-  placed = tail_whole w n (omega (arith, h)) right ys (e ∙ ap (λ (x : List ℤ). over x (mid_of n (length w - n) w)) all)
+  head : length (take n w ++ right) ≡ n + length right
+  head = length-append (take n w) right ∙ omega (arith, length-take-le n w (omega (arith, h)))
 
-  pub laid : take (n + length right) (put_mid n (length w - n) w ys) ≡ take n w ++ right
-  laid = ap (take (n + length right)) placed ∙ tail_take w right n h
+  pub laid : take (n + length right) (put_mid n (n + length right - n) w ys) ≡ take n w ++ right
+  laid = ap (take (n + length right)) placed ∙ take_at (take n w ++ right) (drop (n + length right) w) (n + length right) head
 
-  pub laid_long : length (put_mid n (length w - n) w ys) ≡ length w
-  laid_long = ap length placed ∙ tail_length w right n h
+  pub laid_long : length (put_mid n (n + length right - n) w ys) ≡ length w
+  laid_long = ap length placed ∙ length-append (take n w ++ right) (drop (n + length right) w) ∙ omega (arith, head, length-drop (n + length right) w)
 
-  pub laid_rest : drop (n + length right) (put_mid n (length w - n) w ys) ≡ drop (n + length right) w
-  laid_rest = ap (drop (n + length right)) placed ∙ tail_drop w right n h (n + length right) (omega arith)
+  pub laid_rest : drop (n + length right) (put_mid n (n + length right - n) w ys) ≡ drop (n + length right) w
+  laid_rest = ap (drop (n + length right)) placed ∙ drop_at (take n w ++ right) (drop (n + length right) w) (n + length right) head
 
-  pub laid_back : drop n (take (n + length right) (put_mid n (length w - n) w ys)) ≡ right
+  pub laid_back : drop n (take (n + length right) (put_mid n (n + length right - n) w ys)) ≡ right
   laid_back = ap (drop n) laid ∙ drop_at (take n w) right n (length-take-le n w (omega (arith, h)))
 
 pub take_whole : (l : List ℤ) → take (length l) l ≡ l

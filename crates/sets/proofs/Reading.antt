@@ -1,7 +1,7 @@
 -- One turn of a loop over a slice of ends: what the definitions say of `drop i s` by what stands at i. Assumes nothing.
 use mathlib.Core.Path.{◌≡◌, refl, ap, ◌∙◌}
 use mathlib.Core.List.{List}
-use mathlib.Core.Bool.{Bool, true, false, ◌&&◌, ◌||◌}
+use mathlib.Core.Bool.{Bool, true, false, ◌&&◌}
 use Prim.Native.Nat.{ℕ, suc, ◌+◌, ◌≤◌, ◌<◌}
 use native.Mathlib.Omega.{arith}
 use lib.ListN.{length, take, drop, drop_of_length-le}
@@ -9,11 +9,9 @@ use lib.Seq.{take_all}
 use lib.IntN.{ℤ, pos}
 use lib.Signed.{le_z}
 use Rattle.meaning.specs.Lists.{All}
-use Rattle.meaning.specs.Number.{InRange, within}
-use Rattle.meaning.specs.NumberIntervals.{apart, normal, intervals, starts_after, contains}
-use lib.Dec.{leb}
-use borrow.Author.Tests.{leb-true, leb-false}
-use Rattle.laws.proofs.Integers.{by_test, and_left}
+use Rattle.meaning.specs.Number.{InRange}
+use Rattle.meaning.specs.NumberIntervals.{apart, normal, starts_after}
+use Rattle.laws.proofs.Integers.{and_left}
 use Rattle.laws.proofs.All.{all_next}
 use Rattle.sorting.proofs.Steps.{end_at, drop_one, drop_two, drop_last}
 
@@ -50,14 +48,6 @@ module _ (s : List ℤ) (i : ℕ) where
 
   pub after_more : (e : ℤ) → i < length s → starts_after e (drop i s) ≡ apart e (end_at s i)
   after_more e h = rw (drop_one s i h)
-
-  pub contains_short : (z : ℤ) → length s < i + 2 → contains z (intervals (drop i s)) ≡ false
-  unfolding contains intervals
-  contains_short z k = by_test (leb (length s) i) (λ y. rw (drop_of_length-le s (leb-true (length s) i y))) (λ n. rw (drop_last s i (leb-false (length s) i n) k))
-
-  pub contains_two : (z : ℤ) → i + 2 ≤ length s → contains z (intervals (drop i s)) ≡ (within (end_at s i) z (end_at s (i + 1)) || contains z (intervals (drop (i + 2) s)))
-  unfolding contains intervals
-  contains_two z h = rw (drop_two s i h)
 
 -- the first i numbers are in range, and so is the next one
 range_next : (s : List ℤ) (i : ℕ) → i < length s → All InRange (take i s) → InRange (end_at s i) → All InRange (take (suc i) s)

@@ -2,31 +2,31 @@
 // between neighbours. Only `is_normal` and `contains` take any slice.
 #![tactic(auto)]
 
-ghost use Rattle.std.specs.Prelude.{◌≡◌, true, ◌&&◌, ◌+◌, ◌*◌, ◌<◌, ◌≤◌, length, get_or, drop, pos};
+ghost use Rattle.std.specs.Prelude.{◌≡◌, true, ◌&&◌, ◌+◌, ◌<◌, ◌≤◌, length, slice_index_or, drop, pos};
 ghost use Rattle.std.specs.Int.Signed.{le_z};
 ghost use Rattle.meaning.specs.Number.{within, InRange};
 ghost use Rattle.meaning.specs.NumberIntervals.{contains as is_in, Normal, normal, starts_after, intervals, intersect};
 ghost use Rattle.slices.specs.Wrote.{Wrote};
 ghost use Rattle.sets.specs.Sets.{SetEnds, Pairs, Rebuilt, United};
 
-use slices::{copy_front, greater, le};
-use sorting::{apart, join_pass, merge_in, put_pair, sort_big, sort_part};
+use sorting::{apart, join_pass, merge_in, put_pair, sort_within};
 
 // The interval at i has its start at most its end, and the next one, which is there, is apart from it.
 fn fine_at(s: &[i64], i: usize) -> bool
     requires { i + 2 < length s.now }
-    ensures value { result ≡ (le_z (get_or s.now i (pos 0)) (get_or s.now (i + 1) (pos 0))
-        && starts_after (get_or s.now (i + 1) (pos 0)) (drop (i + 2) s.now)) }
-    ensures start_in_range { InRange (get_or s.now i (pos 0)) }
-    ensures end_in_range { InRange (get_or s.now (i + 1) (pos 0)) }
+    ensures value { result ≡ (le_z (slice_index_or s.now i (pos 0)) (slice_index_or s.now (i + 1) (pos 0))
+        && starts_after (slice_index_or s.now (i + 1) (pos 0)) (drop (i + 2) s.now)) }
+    ensures start_in_range { InRange (slice_index_or s.now i (pos 0)) }
+    ensures end_in_range { InRange (slice_index_or s.now (i + 1) (pos 0)) }
 {
     let a = s[i];
     let b = s[i + 1];
     let c = s[i + 2];
-    if le(a, b) { apart(b, c) } else { false }
+    if a <= b { apart(b, c) } else { false }
 }
 
 // Sorted, no overlap, at least one number missing between neighbours; an odd length is not normal.
+// Kept: one pass by place, since all and is_sorted_by over the pairs take a third longer, and each set call begins with this test.
 pub fn is_normal(s: &[i64]) -> bool
     ensures value { result ≡ normal s.now }
     ensures normal { (result ≡ true → Normal (intervals s.now)) }
@@ -47,39 +47,22 @@ pub fn is_normal(s: &[i64]) -> bool
     }
     let a = s[i];
     let b = s[i + 1];
-    le(a, b)
+    a <= b
 }
 
-// x is in the interval at i.
-fn holds_at(s: &[i64], i: usize, x: i64) -> bool
-    requires { i + 1 < length s.now }
-    ensures { result ≡ within (get_or s.now i (pos 0)) x (get_or s.now (i + 1) (pos 0)) }
+// The interval holds x.
+#[tactic(auto, unfolding(meaning::specs::Number::within))]
+fn holds(pair: &[i64; 2], x: i64) -> bool
+    ensures { result ≡ within (slice_index_or pair.now 0 (pos 0)) x (slice_index_or pair.now 1 (pos 0)) }
 {
-    if s[i] <= x { x <= s[i + 1] } else { false }
+    pair[0] <= x && x <= pair[1]
 }
 
 // x is in one of the intervals.
 pub fn contains(s: &[i64], x: i64) -> bool
     ensures { result ≡ is_in x (intervals s.now) }
 {
-    let n = s.len();
-    let mut i = 0;
-    while n - i > 1 {
-        if holds_at(s, i, x) {
-            return true;
-        }
-        i += 2;
-    }
-    false
-}
-
-// As rebuild, with t as room for half of the numbers.
-fn rebuild_with(work: &mut [i64], n: usize, t: &mut [i64]) -> usize
-    requires { (2 ≤ n) × (n ≤ 2 * length t.old) × Pairs n work.old }
-    ensures { Rebuilt n work.old work.new result }
-{
-    sort_part(&mut work[..n], t);
-    join_pass(work, n)
+    s.as_chunks::<2>().0.iter().any(|pair| holds(pair, x))
 }
 
 // The first n numbers are intervals in any order; they become the normal set of the same members. Returns how many numbers that has.
@@ -90,15 +73,14 @@ pub fn rebuild(work: &mut [i64], n: usize) -> usize
     if n < 4 {
         return n;
     }
+    let ends = &mut work[..n];
     if n <= 64 {
-        let mut t = [0i64; 32];
-        return rebuild_with(work, n, &mut t);
+        sort_within::<32>(ends);
+    } else if n <= 1024 {
+        sort_within::<512>(ends);
+    } else {
+        sort_within::<4096>(ends);
     }
-    if n <= 1024 {
-        let mut u = [0i64; 512];
-        return rebuild_with(work, n, &mut u);
-    }
-    sort_big(&mut work[..n]);
     join_pass(work, n)
 }
 
@@ -107,34 +89,23 @@ pub fn meet(work: &mut [i64], left: &[i64], right: &[i64]) -> usize
     requires { (length left.now + length right.now ≤ length work.old) × SetEnds left.now × SetEnds right.now }
     ensures { Wrote result (intersect (intervals left.now) (intervals right.now)) work.new work.old }
 {
-    let n = left.len();
-    let m = right.len();
-    let mut i = 0;
-    let mut j = 0;
+    let mut lefts = left;
+    let mut rights = right;
     let mut at = 0;
-    while i < n {
-        if j >= m {
-            return at;
-        }
-        let s = left[i];
-        let e = left[i + 1];
-        let c = right[j];
-        let d = right[j + 1];
-        let lo = greater(s, c);
-        if le(e, d) {
-            if le(lo, e) {
-                put_pair(work, at, lo, e);
+    while let ([s, e, left_rest @ ..], [c, d, right_rest @ ..]) = (lefts, rights) {
+        let lo = (*s).max(*c);
+        if *e <= *d {
+            if lo <= *e {
+                put_pair(work, at, lo, *e);
                 at += 2;
-                i += 2;
-            } else {
-                i += 2;
             }
-        } else if le(lo, d) {
-            put_pair(work, at, lo, d);
-            at += 2;
-            j += 2;
+            lefts = left_rest;
         } else {
-            j += 2;
+            if lo <= *d {
+                put_pair(work, at, lo, *d);
+                at += 2;
+            }
+            rights = right_rest;
         }
     }
     at
@@ -146,12 +117,11 @@ pub fn unite(work: &mut [i64], left: &[i64], right: &[i64]) -> usize
     ensures { United left.now right.now work.old work.new result }
 {
     let n = left.len();
-    let m = right.len();
-    let k = n + m;
+    let k = n + right.len();
     if k < 2 {
         return 0;
     }
-    copy_front(&mut work[n..], right, m);
+    work[n..k].copy_from_slice(right);
     merge_in(&mut work[..k], n, left);
     join_pass(work, k)
 }

@@ -1,10 +1,11 @@
--- What is remembered of the lines so far, and what a line may not be after them, as the code keeps it. Assumes nothing.
-use Rattle.std.specs.Prelude.{length, get_or, set, ◌≡◌, Bool, true, false, cond, ◌||◌, List, ℕ}
-use Rattle.meaning.specs.Refusals.{misplaced}
-use Rattle.meaning.specs.Sheet.{Line}
-use Rattle.meaning.specs.Text.{sheet, read}
-use Rattle.lines.specs.declared.LineForm.{LineForm}
-use Rattle.lines.specs.declared.LineForm.TheVariants as line
+-- What is remembered of the lines so far, as the code keeps it, and what a text that is a sheet reads as. Assumes nothing.
+use Rattle.std.specs.Prelude.{length, get_or, ◌≡◌, ◌<◌, false, List, ℕ, Result, Ok, Err}
+use Rattle.meaning.specs.Outcome.{Res, ok, stop}
+use Rattle.meaning.specs.Sheet.{registers, Line}
+use Rattle.meaning.specs.Text.{Seen, among, Taken, sheet, read}
+use Rattle.refusals.specs.declared.Cause.{Cause}
+use Rattle.refusals.specs.Numbers.{number_of}
+use Rattle.sheet.specs.declared.Seen.{Seen as Kept}
 
 -- the text reads as a sheet of n lines
 pub record IsSheet (t : List ℕ) (n : ℕ) : Type 0 where
@@ -12,30 +13,13 @@ pub record IsSheet (t : List ℕ) (n : ℕ) : Type 0 where
   pub reads : read t ≡ sheet lines
   pub count : length lines ≡ n
 
--- a line of another kind than `in`
-abbrev pub is_act : LineForm → Bool
-is_act (line.In r lo hi) = false
-is_act (line.Put r j) = true
-is_act (line.Hold r lo hi) = true
-is_act (line.Refused k) = true
+-- the code keeps of the lines what was seen of them: a register is marked where it has an `in`
+pub record Notes (kept : Kept) (seen : Seen) : Type 0 where
+  pub size : length kept.taken ≡ registers
+  pub other : kept.other ≡ seen.other
+  pub each : (r : ℕ) → r < registers → get_or kept.taken r false ≡ among r seen.taken
 
--- a line's refusal, 0 if there is none: `other` says whether another kind came, and `taken` which registers have an `in`
-unfoldable pub admission : Bool → List Bool → LineForm → ℕ
-admission other taken (line.In r lo hi) = cond (other || get_or taken r false) misplaced 0
-admission other taken (line.Put r j) = 0
-admission other taken (line.Hold r lo hi) = 0
-admission other taken (line.Refused k) = k
-
--- the registers with an `in` after the line
-unfoldable pub taken_with : Bool → List Bool → LineForm → List Bool
-taken_with other taken (line.In r lo hi) = cond (other || get_or taken r false) taken (set taken r true)
-taken_with other taken (line.Put r j) = taken
-taken_with other taken (line.Hold r lo hi) = taken
-taken_with other taken (line.Refused k) = taken
-
--- an `in` line's register
-abbrev pub in_register : LineForm → ℕ
-in_register (line.In r lo hi) = r
-in_register (line.Put r j) = 0
-in_register (line.Hold r lo hi) = 0
-in_register (line.Refused k) = 0
+-- one more line: it is taken, and what was seen with it is kept, or it is refused by its number
+abbrev pub Reads : Result (Unit {0}) Cause → Kept → Res Taken → Type 0
+Reads (Ok u) kept r = (t : Taken) × (r ≡ ok t) × Notes kept t.seen
+Reads (Err cause) kept r = r ≡ stop (number_of cause)

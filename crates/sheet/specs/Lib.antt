@@ -1,4 +1,3 @@
 pub mod Answer
-pub mod Feed
 pub mod Judging
 pub mod Place

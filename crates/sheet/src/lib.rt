@@ -1,81 +1,116 @@
-// A whole text of a sheet (01, "Sheet"): where its lines end, the line finder, and which refusal the text meets.
+// A whole text of a sheet: where its lines end, the line finder, and which refusal the text meets.
 // A line is what an LF (byte 10) ends. What stands behind the last LF is no line.
 #![tactic(auto)]
 
-ghost use Rattle.std.specs.Prelude.{◌≡◌, [], ◌+◌, ◌<◌, length, drop};
-ghost use Rattle.meaning.specs.Sheet.{registers};
-ghost use Rattle.meaning.specs.Text.{line_at, cut, split_lines, lines, shaped as shaped_text, nothing_seen, read_lines};
-ghost use Rattle.sheet.specs.Feed.{feed};
-ghost use Rattle.sheet.specs.Place.{Placed};
+ghost use Rattle.std.specs.Prelude.{◌≡◌, [], ◌+◌, ◌<◌, ◌==◌, ◌&&◌, leb, length, drop, position};
+ghost use Rattle.std.specs.Iterator.{YieldsFirstRef, at_most};
+ghost use Rattle.meaning.specs.Text.{line_at, cut, split_lines, lines, empty, narrow, shaped as shaped_text, Seen as SeenLines, nothing_seen, read_one, read_lines};
+ghost use Rattle.refusals.specs.Endings.{ending_of};
 ghost use Rattle.sheet.specs.Answer.{judgement_for, Judges};
-ghost use Rattle.sheet.specs.Judging.{is_act, admission, taken_with, in_register};
+ghost use Rattle.sheet.specs.Judging.{Notes, Reads};
+ghost use Rattle.sheet.specs.Place.{Placed};
 
 use limits::{LINE, LINES, REGISTERS};
-use lines::{LineForm, read_line};
-use refusals::{MISPLACED, MISSHAPEN};
+use lines::{Line, read_line};
+use refusals::{Cause, Trouble};
+
+// Where the first LF of the text stands.
+fn first_lf(text: &[u8]) -> Option<usize>
+    ensures { result ≡ position (λ byte. byte == 10) text.now }
+{
+    text.iter().position(|byte| *byte == b'\n')
+}
+
+// The lines of a text in order, each without its LF.
+#[derive(Clone, Copy, Debug)]
+pub struct Lines<'a> {
+    // What is left of the text.
+    pub rest: &'a [u8],
+}
+
+impl<'a> Lines<'a> {
+    pub fn of(text: &'a [u8]) -> Lines<'a>
+        ensures { result.rest.now ≡ text.now }
+    {
+        Lines { rest: text }
+    }
+}
+
+impl<'a> Iterator for Lines<'a> {
+    type Item = &'a [u8];
+
+    ghost next_gives = { YieldsFirstRef (λ it. lines it.rest.now) };
+
+    ghost remaining = { λ it. at_most (length it.rest.now) };
+
+    #[tactic(auto, using(crate::proofs::Feeds::none_first))]
+    fn next(&mut self) -> Option<&'a [u8]> {
+        let text = self.rest;
+        let end = first_lf(text)?;
+        self.rest = &text[end + 1..];
+        Some(&text[..end])
+    }
+}
+
+// An LF ends the text, or it is empty.
+#[tactic(auto, using(crate::proofs::Feeds::ended_is))]
+fn ended(text: &[u8]) -> bool
+    ensures { result ≡ empty (split_lines text.now).rest }
+{
+    text.last().is_none_or(|byte| *byte == b'\n')
+}
+
+// At most 256 lines, none over 120 bytes.
+fn fits(text: &[u8]) -> bool
+    ensures { result ≡ (leb (length (lines text.now)) 256 && narrow (lines text.now)) }
+{
+    Lines::of(text)
+        .enumerate()
+        .all(|(n, line)| n < LINES && line.len() <= LINE)
+}
+
+// At most 256 lines, none over 120 bytes, and an LF at the end.
+fn shaped(text: &[u8]) -> bool
+    ensures { result ≡ shaped_text (split_lines text.now) }
+{
+    fits(text) && ended(text)
+}
 
 // Where a line starts in its text, and its length in bytes.
 #[repr(C)]
-#[derive(Clone, Copy)]
+#[derive(Clone, Copy, Default)]
 pub struct Part {
     pub start: usize,
     pub len: usize,
 }
 
-// Fine with its count of lines, or refused with a number and a line.
-#[derive(Clone, Copy)]
-pub enum Judgement {
-    Fine(usize),
-    Refused(u8, usize),
-}
-
-// Where the line that starts at `at` ends: its LF, or the end of the text; `at` itself past the end.
-pub fn line_end(text: &[u8], at: usize) -> usize
-    ensures { result ≡ at + feed (drop at text.now) }
-{
-    let mut i = at;
-    while i < text.len() {
-        if text[i] == b'\n' {
-            return i;
-        }
-        i += 1;
-    }
-    i
-}
-
 // Where what is behind the first k lines starts; the end of the text if there are fewer.
+#[tactic(auto, using(crate::proofs::Feeds::start_first))]
 pub fn line_start(text: &[u8], k: usize) -> usize
     ensures { result ≡ length (cut text.now k) }
 {
-    let mut at = 0;
-    let mut i = 0;
-    while i < k {
-        let e = line_end(text, at);
-        if text.len() <= e {
+    let mut rest = text;
+    for _i in 0..k {
+        let Some(end) = first_lf(rest) else {
             return text.len();
-        }
-        at = e + 1;
-        i += 1;
+        };
+        rest = &rest[end + 1..];
     }
-    at
+    text.len() - rest.len()
 }
 
 // Where line n stands in the text, without its LF; 0 and 0 for line 0 or a line that has no LF.
+#[tactic(auto, using(crate::proofs::Feeds::cut_le))]
 pub fn place(text: &[u8], n: usize) -> Part
     ensures { Placed text.now n result }
 {
-    if n == 0 {
-        return Part { start: 0, len: 0 };
-    }
-    let at = line_start(text, n - 1);
-    let e = line_end(text, at);
-    if e < text.len() {
-        Part {
-            start: at,
-            len: e - at,
-        }
-    } else {
-        Part { start: 0, len: 0 }
+    let Some(before) = n.checked_sub(1) else {
+        return Part::default();
+    };
+    let start = line_start(text, before);
+    match first_lf(&text[start..]) {
+        Some(len) => Part { start, len },
+        None => Part::default(),
     }
 }
 
@@ -83,101 +118,61 @@ pub fn place(text: &[u8], n: usize) -> Part
 pub fn line(text: &[u8], n: usize) -> &[u8]
     ensures { result.now ≡ line_at text.now n }
 {
-    let p = place(text, n);
-    let start = p.start;
-    let end = start + p.len;
-    &text[start..end]
+    let part = place(text, n);
+    &text[part.start..part.start + part.len]
 }
 
-// At most 256 lines, none over 120 bytes, and an LF at the end.
-fn shaped(text: &[u8]) -> bool
-    ensures { result ≡ shaped_text (split_lines text.now) }
-{
-    let mut at = 0;
-    let mut n: usize = 0;
-    while at < text.len() {
-        let e = line_end(text, at);
-        if e == text.len() {
-            return false;
-        }
-        if LINE < e - at {
-            return false;
-        }
-        if n == LINES {
-            return false;
-        }
-        n += 1;
-        at = e + 1;
-    }
-    true
+// What was seen of the lines so far: whether another kind than `in` came, and the registers with an `in`.
+#[derive(Clone, Copy)]
+struct Seen {
+    other: bool,
+    taken: [bool; REGISTERS],
 }
 
-// The line's refusal, 8 where an `in` may not stand; 0 if there is none, and then the register of an `in` is taken.
-#[tactic(auto, unfolding(crate::specs::Judging::admission, crate::specs::Judging::taken_with))]
-fn admit(other: bool, taken: &mut [bool; REGISTERS], l: LineForm) -> u8
-    requires { in_register l < registers }
-    ensures value { result ≡ admission other taken.old l }
-    ensures taken_after { taken.new ≡ taken_with other taken.old l }
-{
-    match l {
-        LineForm::In(r, _, _) => {
-            if other {
-                return MISPLACED;
+impl Seen {
+    // One more line, from its bytes: it is refused, also where an `in` may not stand.
+    #[tactic(auto, using(crate::proofs::Judging::in_there, crate::proofs::Judging::line_stops))]
+    fn read(&mut self, text: &[u8]) -> Result<(), Cause>
+        ensures { (before : SeenLines) → Notes self.old before → Reads result self.new (read_one before text.now) }
+    {
+        match read_line(text)? {
+            Line::In(register, _) => {
+                if self.other || self.taken[register] {
+                    return Err(Cause::Misplaced);
+                }
+                self.taken[register] = true;
             }
-            if taken[r] {
-                return MISPLACED;
-            }
-            taken[r] = true;
-            0
+            Line::Put(..) | Line::Hold(..) => self.other = true,
         }
-        LineForm::Put(_, _) => 0,
-        LineForm::Hold(_, _, _) => 0,
-        LineForm::Refused(k) => k,
+        Ok(())
     }
 }
 
-// A line after which no `in` may stand.
-fn is_act(l: LineForm) -> bool
-    ensures { result ≡ is_act l }
+// The lines in order: their count, or the first that is refused.
+#[tactic(auto, using(crate::proofs::Judging::going_start))]
+fn judge_lines(text: &[u8]) -> Result<usize, Trouble>
+    ensures { ending_of result ≡ judgement_for (read_lines 1 nothing_seen (lines text.now)) }
 {
-    match l {
-        LineForm::In(_, _, _) => false,
-        LineForm::Put(_, _) => true,
-        LineForm::Hold(_, _, _) => true,
-        LineForm::Refused(_) => true,
+    let mut seen = Seen {
+        other: false,
+        taken: [false; REGISTERS],
+    };
+    let mut count = 0;
+    for line in Lines::of(text) {
+        count += 1;
+        seen.read(line)
+            .map_err(|cause| Trouble::Refused(cause, count))?;
     }
-}
-
-// The lines in order: the first that is refused.
-fn judge_lines(text: &[u8]) -> Judgement
-    requires { (split_lines text.now).rest ≡ [] }
-    ensures { result ≡ judgement_for (read_lines 1 nothing_seen (lines text.now)) }
-{
-    let mut taken = [false; REGISTERS];
-    let mut other = false;
-    let mut n: usize = 0;
-    let mut at = 0;
-    while at < text.len() {
-        let e = line_end(text, at);
-        let l = read_line(&text[at..e]);
-        n += 1;
-        let k = admit(other, &mut taken, l);
-        if k != 0 {
-            return Judgement::Refused(k, n);
-        }
-        other = is_act(l);
-        at = e + 1;
-    }
-    Judgement::Fine(n)
+    Ok(count)
 }
 
 // Any bytes, of any length: 5 over the whole text first, then line by line 6, 7, LO past HI, 8.
-pub fn judge_text(text: &[u8]) -> Judgement
+pub fn judge_text(text: &[u8]) -> Result<usize, Trouble>
     ensures { Judges text.now result }
 {
     if shaped(text) {
         judge_lines(text)
     } else {
-        Judgement::Refused(MISSHAPEN, 0)
+        Err(Trouble::Refused(Cause::Misshapen, 0))
     }
 }

@@ -1,12 +1,23 @@
 // A stored sheet: 36 bytes that say how long its parts are and what is expected, then the text, the numbers lent to the run, the numbers that it leaves,
 // the numbers of the check's sets that are not 0 with their places, the listing, and the page.
 use limits::SETS;
-use replay::{fill, fill_front, read_full};
+use refusals::Trouble;
+use replay::{ROOM, read_bytes, read_front, read_number};
 use std::io::Read;
-use stored::{Verdict, pair, verdict_in, wide};
+use stored::{pair, verdict_in};
 
 // What the sets hold when they are lent to the check.
 pub const OLD_SETS: i64 = -3333333;
+
+// More bytes than a stored text has, than a stored listing, and than a stored page.
+const TEXT_ROOM: usize = 65536;
+
+pub const LISTING_ROOM: usize = 4096;
+
+pub const PAGE_ROOM: usize = 65536;
+
+// More numbers than are lent to a run.
+pub const LENT_ROOM: usize = 64;
 
 // Lengths of the text, of the lent numbers, of the check's two slices, of the listing and of the page; how many numbers of the sets are stored; whether the
 // work is cleared; what reading, run, check and page answer; and a line number with the start and end of its bytes.
@@ -15,9 +26,9 @@ pub struct Case {
     pub text: usize,
     pub lent: usize,
     pub cleared: bool,
-    pub judged: Verdict,
-    pub ran: Verdict,
-    pub checked: Verdict,
+    pub judged: Option<Result<usize, Trouble>>,
+    pub ran: Option<Result<usize, Trouble>>,
+    pub checked: Option<Result<usize, Trouble>>,
     pub sets: usize,
     pub work: usize,
     pub stored: usize,
@@ -26,14 +37,28 @@ pub struct Case {
     pub start: usize,
     pub end: usize,
     pub page: usize,
-    pub paged: Verdict,
+    pub paged: Option<Result<usize, Trouble>>,
 }
 
-// The case that the stored bytes say.
-pub fn case_in(b: &[u8; 36]) -> Case {
-    Case {
+// A case with its parts, each as long as the case says.
+#[derive(Clone, Copy)]
+pub struct Sheet<'a> {
+    pub case: &'a Case,
+    pub text: &'a [u8],
+    pub lent: &'a [i64],
+    pub left: &'a [i64],
+    pub sets: &'a [i64],
+    pub listing: &'a [u8],
+    pub page: &'a [u8],
+}
+
+// The next case of the file, if it has one more.
+fn read_case<F: Read>(file: &mut F) -> Option<Case> {
+    let mut b = [0u8; 36];
+    file.read_exact(&mut b).ok()?;
+    Some(Case {
         text: pair(b[0], b[1]),
-        lent: wide(b[2]),
+        lent: usize::from(b[2]),
         cleared: b[3] == 1,
         judged: verdict_in(b[4], b[5], b[6], b[7]),
         ran: verdict_in(b[8], b[9], b[10], b[11]),
@@ -47,36 +72,60 @@ pub fn case_in(b: &[u8; 36]) -> Case {
         end: pair(b[28], b[29]),
         page: pair(b[30], b[31]),
         paged: verdict_in(b[32], b[33], b[34], b[35]),
-    }
+    })
 }
 
 // One stored number of the sets, at its place.
-fn read_place<F: Read>(file: &mut F, s: &mut [i64]) {
+fn read_place<F: Read>(file: &mut F, sets: &mut [i64]) {
     let mut b = [0u8; 2];
-    read_full(file, &mut b);
-    let place = pair(b[0], b[1]);
-    let value = replay::read_number(file);
-    if place < s.len() {
-        s[place] = value;
-    }
-}
-
-// n numbers with their places, from the file into s.
-fn read_places<F: Read>(file: &mut F, s: &mut [i64], n: usize) {
-    let mut i = 0;
-    while i < n {
-        read_place(file, s);
-        i += 1;
+    let _ = file.read_exact(&mut b);
+    let value = read_number(file);
+    if let Some(x) = sets.get_mut(pair(b[0], b[1])) {
+        *x = value;
     }
 }
 
 // The sets as the check is to leave them: as lent, or after a pass those of the registers, of which those that are not 0 are stored.
-pub fn read_sets<F: Read>(file: &mut F, c: Case, want: &mut [i64]) -> bool {
-    fill(want, OLD_SETS);
-    if c.checked.kind != 0 {
-        return true;
+fn read_sets<F: Read>(file: &mut F, c: &Case, want: &mut [i64; ROOM]) {
+    if let Some(Ok(_)) = c.checked {
+        want[..SETS].fill(0);
+        for _ in 0..c.stored {
+            read_place(file, want);
+        }
     }
-    let is_long = fill_front(want, SETS, 0);
-    read_places(file, want, c.stored);
-    is_long
+}
+
+// Whether the sheet of a case passes the test; none if a part of it is too long or the file ends in it.
+fn passes<F: Read, T: Fn(&Sheet) -> bool>(file: &mut F, c: &Case, test: &T) -> Option<bool>
+    requires { T.IsAlwaysCallable test.now }
+{
+    let mut text = [0u8; TEXT_ROOM];
+    let mut lent = [0i64; LENT_ROOM];
+    let mut left = [0i64; LENT_ROOM];
+    let mut sets = [OLD_SETS; ROOM];
+    let mut listing = [0u8; LISTING_ROOM];
+    let mut page = [0u8; PAGE_ROOM];
+    let text = read_bytes(file, &mut text, c.text)?;
+    let lent = read_front(file, &mut lent, c.lent)?;
+    let left = read_front(file, &mut left, c.lent)?;
+    read_sets(file, c, &mut sets);
+    let listing = read_bytes(file, &mut listing, c.listed)?;
+    let page = read_bytes(file, &mut page, c.page)?;
+    Some(test(&Sheet {
+        case: c,
+        text,
+        lent,
+        left,
+        sets: &sets,
+        listing,
+        page,
+    }))
+}
+
+// Whether the next sheet of the file passes the test, if there is one more.
+pub fn next_passes<F: Read, T: Fn(&Sheet) -> bool>(file: &mut F, test: &T) -> Option<bool>
+    requires { T.IsAlwaysCallable test.now }
+{
+    let c = read_case(file)?;
+    Some(passes(file, &c, test).unwrap_or(false))
 }

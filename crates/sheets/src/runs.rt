@@ -1,14 +1,17 @@
 // The run: its answer, and the numbers that it leaves.
-use crate::case::Case;
-use run::Answer;
-use stored::verdict_as_expected;
+use crate::case::{LENT_ROOM, Sheet};
+use run::run;
 
-// The run answers as is expected, and leaves its numbers so.
-pub fn agrees(c: Case, text: &[u8], lent: &mut [i64], left: &[i64]) -> bool {
-    let is_answer = match run::run(text, lent) {
-        Answer::Done(n) => verdict_as_expected(c.ran, 0, 0, n),
-        Answer::Stopped(k, l) => verdict_as_expected(c.ran, 1, k, l),
-        Answer::Refused(k, l) => verdict_as_expected(c.ran, 2, k, l),
-    };
-    is_answer && replay::same(lent, left)
+// The run answers as is expected, and leaves its numbers so; none if more numbers are lent than there is room for.
+fn answers(s: &Sheet) -> Option<bool> {
+    let mut lent = [0i64; LENT_ROOM];
+    let lent = lent.get_mut(..s.lent.len())?;
+    lent.copy_from_slice(s.lent);
+    let answer = run(s.text, lent);
+    Some(s.case.ran == Some(answer) && *lent == *s.left)
+}
+
+// So it does.
+pub fn agrees(s: &Sheet) -> bool {
+    answers(s).unwrap_or(false)
 }

@@ -4,7 +4,7 @@ use mathlib.Core.List.{List, [], ◌++◌}
 use borrow.Rule.Slice.PartMut.{mid_of, put_mid}
 use Prim.Native.Nat.{ℕ, ◌+◌, ◌-◌, ◌≤◌}
 use native.Mathlib.Omega.{arith}
-use lib.ListN.{length, length-append, length-drop}
+use lib.ListN.{length, drop, length-append, length-drop}
 use lib.IntN.{ℤ}
 use Rattle.meaning.specs.Lists.{over}
 use Rattle.meaning.specs.Interval.{Interval}
@@ -12,6 +12,11 @@ use Rattle.meaning.specs.NumberIntervals.{flat}
 use Rattle.laws.proofs.Over.{over_nil, length_over, tail_next, mid_tail}
 use Rattle.laws.proofs.Flat.{flat_append}
 use Rattle.slices.specs.Wrote.{Wrote}
+
+-- a front of k numbers, and after it what stood there before
+pub over_front : (old : List ℤ) {new xs : List ℤ} {k : ℕ} → new ≡ xs → length xs ≡ k → new ++ drop k old ≡ over xs old
+unfolding over
+over_front old e h i = e i ++ drop (sym h i) old
 
 pub length_flat_append : (x y : List Interval) → length (flat (x ++ y)) ≡ length (flat x) + length (flat y)
 length_flat_append x y = ap length (flat_append x y) ∙ length-append (flat x) (flat y)

@@ -1,4 +1,5 @@
 pub mod Arrange
+pub mod Chunks
 pub mod Ends
 pub mod Halves
 pub mod Passes

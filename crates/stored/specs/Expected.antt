@@ -1,14 +1,21 @@
--- When a reply, or an answer of nearest, is the one that a stored case expects. Assumes nothing.
-use Rattle.std.specs.Prelude.{ℤ, ◌≡◌, Bool, ℕ}
-use Rattle.replies.specs.Returning.{reply_for}
-use Rattle.replies.specs.declared.Reply.{Reply}
-use Rattle.setpoints.specs.Saying.{setpoint_for}
-use Rattle.setpoints.specs.declared.Setpoint.{Setpoint}
+-- What a stored case expects of a call. Assumes nothing.
+use Rattle.std.specs.Prelude.{◌≡◌, Bool, true, ℕ, Result, Ok, Err, Option, MatchOption}
+use Rattle.refusals.specs.declared.Cause.{Cause}
+use Rattle.refusals.specs.declared.Trouble.{Trouble}
+use Rattle.refusals.specs.declared.Trouble.TheVariants.{Refused, Stopped}
+use Rattle.refusals.specs.Numbers.{number_of}
 
--- the reply for that number, count and flag
-abbrev pub Expected : Reply → ℕ → ℕ → Bool → Type 0
-Expected reply number count flag = reply ≡ reply_for (record { number = number; count = count; flag = flag })
+-- the answer is the one for that number and value: number 0 is a success, any other a refusal
+abbrev pub Expected : {A : Type 0} → (A → A → Bool) → Result A Cause → ℕ → A → Type 0
+Expected eq (Ok v) number value = (number ≡ 0) × (eq v value ≡ true)
+Expected eq (Err cause) number value = number ≡ number_of cause
 
--- the answer for that number and member
-abbrev pub ExpectedMember : Setpoint → ℕ → ℤ → Type 0
-ExpectedMember answer number member = answer ≡ setpoint_for (record { number = number; member = member })
+-- the answer is stored by that kind, number and line
+abbrev pub StoredBy : ℕ → ℕ → ℕ → Result ℕ Trouble → Type 0
+StoredBy kind number line (Ok n) = (kind ≡ 0) × (number ≡ 0) × (line ≡ n)
+StoredBy kind number line (Err (Stopped cause l)) = (kind ≡ 1) × (number ≡ number_of cause) × (line ≡ l)
+StoredBy kind number line (Err (Refused cause l)) = (kind ≡ 2) × (number ≡ number_of cause) × (line ≡ l)
+
+-- the answer that is stored so, or none where none is
+abbrev pub Reads : ℕ → ℕ → ℕ → Option (Result ℕ Trouble) → Type 0
+Reads kind number line r = MatchOption r ((answer : Result ℕ Trouble) → StoredBy kind number line answer → ⊥) (StoredBy kind number line)

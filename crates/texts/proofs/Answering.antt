@@ -1,4 +1,4 @@
--- The ends of a call that writes text: short, written, finding and refusal. Assumes nothing.
+-- The ends of a call that writes text: short, written, stop and refusal. Assumes nothing.
 use lib.Dec.{ltb}
 use lib.ListN.{length}
 use mathlib.Core.Path.{◌≡◌, refl, sym, ap, subst, ◌∙◌}
@@ -7,55 +7,58 @@ use mathlib.Core.List.{List}
 use Prim.Native.Nat.{ℕ, ◌≤◌, ◌<◌}
 use native.Mathlib.Omega.{arith}
 use borrow.Author.Tests.{lt-ltb, le-ltb, ltb-false}
+use Rattle.std.specs.Prelude.{Result, Ok, Err}
 use Rattle.meaning.specs.Refusals.{no_room}
 use Rattle.meaning.specs.Composing.{Composed, text, finding, refusal, text_returns, text_leaves}
+use Rattle.refusals.specs.declared.Cause.{Cause}
+use Rattle.refusals.specs.declared.Cause.TheVariants.{NoRoom}
+use Rattle.refusals.specs.declared.Trouble.{Trouble}
+use Rattle.refusals.specs.declared.Trouble.TheVariants.{Refused, Stopped}
+use Rattle.refusals.specs.Numbers.{number_of}
+use Rattle.refusals.specs.Endings.{Ending, ending_of}
+use Rattle.refusals.specs.Endings as ending
 use Rattle.laws.proofs.Integers.{if_yes, if_no}
 use Rattle.decimal.specs.Written.{Written}
 use Rattle.texts.specs.Answers.{answer_for, Writes}
-use Rattle.texts.specs.declared.Answer.{Answer}
-use Rattle.texts.specs.declared.Answer.TheVariants as answer
 
-pub writes_short : (x out : List ℕ) → length out < length x → Writes (text x) out (answer.Refused no_room 0) out
+pub writes_short : (x out : List ℕ) → length out < length x → Writes (text x) out (Err (Refused NoRoom 0)) out
 unfolding text_returns text_leaves answer_for
 writes_short x out h =
     let t = lt-ltb (length out) (length x) h in
     record { returns = if_yes _ _ t; answer_is = if_yes _ _ t; leaves = if_yes _ _ t }
 
-pub writes_all : (x : List ℕ) {out new : List ℕ} {n : ℕ} → Written n x new out → Writes (text x) out (answer.Written n) new
+pub writes_all : (x : List ℕ) {out new : List ℕ} {n : ℕ} → Written n x new out → Writes (text x) out (Ok n) new
 unfolding text_returns text_leaves answer_for
 writes_all x {out} {new} {n} w =
     let t = le-ltb (length out) (length x) (omega (arith, w.count, w.room)) in
     record {
       returns = ap (λ (k : ℕ). record { number = 0; line = 0; count = k }) w.count ∙ if_no _ _ t;
-      answer_is = ap answer.Written w.count ∙ if_no _ _ t;
+      answer_is = ap ending.success w.count ∙ if_no _ _ t;
       leaves = w.left ∙ if_no _ _ t;
     }
 
-pub writes_finding : (k l : ℕ) (out : List ℕ) → Writes (finding k l) out (answer.Finding k l) out
+pub writes_stop : (k : Cause) (l : ℕ) (out : List ℕ) → Writes (finding (number_of k) l) out (Err (Stopped k l)) out
 unfolding text_returns text_leaves answer_for
-writes_finding k l out = record { returns = refl; answer_is = refl; leaves = refl }
+writes_stop k l out = record { returns = refl; answer_is = refl; leaves = refl }
 
-pub writes_refusal : (k l : ℕ) (out : List ℕ) → Writes (refusal k l) out (answer.Refused k l) out
+pub writes_refusal : (k : Cause) (l : ℕ) (out : List ℕ) → Writes (refusal (number_of k) l) out (Err (Refused k l)) out
 unfolding text_returns text_leaves answer_for
 writes_refusal k l out = record { returns = refl; answer_is = refl; leaves = refl }
 
 -- what it was to write, said another way
-pub writes_as : {x y : Composed} {out new : List ℕ} {r : Answer} → x ≡ y → Writes x out r new → Writes y out r new
+pub writes_as : {x y : Composed} {out new : List ℕ} {r : Result ℕ Trouble} → x ≡ y → Writes x out r new → Writes y out r new
 writes_as {out = out} {new = new} {r = r} e w = subst (λ (c : Composed). Writes c out r new) e w
 
 -- what was written lies in the output
-pub written_fits : {c : Composed} {out new : List ℕ} {r : Answer} {n : ℕ} → Writes c out r new → r ≡ answer.Written n → n ≤ length out
+pub written_fits : {c : Composed} {out new : List ℕ} {r : Result ℕ Trouble} {n : ℕ} → Writes c out r new → r ≡ Ok n → n ≤ length out
 unfolding answer_for
-written_fits {c} {out} {new} {r} {n} w e = go c (sym e ∙ w.answer_is)
+written_fits {c} {out} {new} {r} {n} w e = go c (ap ending_of (sym e) ∙ w.answer_is)
   where
-    clash : {X : Type 0} {k l : ℕ} → answer.Written n ≡ answer.Refused k l → X
-    clash p = let z : ◌≡◌ {A = ℕ} 0 1 = cc in absurd (let v : ⊥ = omega arith in v)
-
-    fits : (x : List ℕ) (b : Bool) → ltb (length out) (length x) ≡ b → answer.Written n ≡ cond b (answer.Refused no_room 0) (answer.Written (length x)) → n ≤ length out
-    fits x true t p = clash p
+    fits : (x : List ℕ) (b : Bool) → ltb (length out) (length x) ≡ b → ending.success n ≡ cond b (ending.refusal no_room 0) (ending.success (length x)) → n ≤ length out
+    fits x true t p = absurd (grind arith)
     fits x false t p = let k : n ≡ length x = cc in omega (arith, ltb-false (length out) (length x) t)
 
-    go : (c : Composed) → answer.Written n ≡ answer_for c (length out) → n ≤ length out
+    go : (c : Composed) → ending.success n ≡ answer_for c (length out) → n ≤ length out
     go (text x) p = fits x (ltb (length out) (length x)) refl p
-    go (finding k l) p = let z : ◌≡◌ {A = ℕ} 0 1 = cc in absurd (let v : ⊥ = omega arith in v)
-    go (refusal k l) p = clash p
+    go (finding k l) p = absurd (grind arith)
+    go (refusal k l) p = absurd (grind arith)

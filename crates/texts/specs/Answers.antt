@@ -1,25 +1,19 @@
 -- The answer of a part that writes text, in the words of meaning/Composing, and the contract of such a call. Assumes nothing.
-use Rattle.std.specs.Prelude.{ltb, length, ◌≡◌, cond, List, ℕ}
+use Rattle.std.specs.Prelude.{ltb, length, ◌≡◌, cond, List, ℕ, Result}
 use Rattle.meaning.specs.Refusals.{no_room}
-use Rattle.meaning.specs.Run.{Verdict}
 use Rattle.meaning.specs.Composing.{Composed, text, finding, refusal, text_returns, text_leaves}
-use Rattle.texts.specs.declared.Answer.{Answer}
-use Rattle.texts.specs.declared.Answer.TheVariants as answer
-
--- the paper's number and values of each case
-abbrev pub verdict_of : Answer → Verdict
-verdict_of (answer.Written n) = record { number = 0; line = 0; count = n }
-verdict_of (answer.Finding k l) = record { number = k; line = l; count = 0 }
-verdict_of (answer.Refused k l) = record { number = k; line = l; count = 0 }
+use Rattle.refusals.specs.declared.Trouble.{Trouble}
+use Rattle.refusals.specs.Endings.{Ending, ending_of, verdict_of}
+use Rattle.refusals.specs.Endings as ending
 
 -- the answer for n bytes lent
-unfoldable pub answer_for : Composed → ℕ → Answer
-answer_for (text x) n = cond (ltb n (length x)) (answer.Refused no_room 0) (answer.Written (length x))
-answer_for (finding k l) n = answer.Finding k l
-answer_for (refusal k l) n = answer.Refused k l
+unfoldable pub answer_for : Composed → ℕ → Ending
+answer_for (text x) n = cond (ltb n (length x)) (ending.refusal no_room 0) (ending.success (length x))
+answer_for (finding k l) n = ending.stop k l
+answer_for (refusal k l) n = ending.refusal k l
 
 -- a call that was to write c: `out` was lent, r returned, and `out'` left
-pub record Writes (c : Composed) (out : List ℕ) (r : Answer) (out' : List ℕ) : Type 0 where
+pub record Writes (c : Composed) (out : List ℕ) (r : Result ℕ Trouble) (out' : List ℕ) : Type 0 where
   pub returns : verdict_of r ≡ text_returns c out
-  pub answer_is : r ≡ answer_for c (length out)
+  pub answer_is : ending_of r ≡ answer_for c (length out)
   pub leaves : out' ≡ text_leaves c out

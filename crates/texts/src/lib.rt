@@ -1,10 +1,3 @@
-// What a part that writes text answers (02, (i)). A finding or refusal leaves the output as lent, and so does an output that is too short, which is 4 with line 0.
+// What a part that writes text answers: how many bytes it wrote, or the check's refusal or stop. Those leave the output as lent, and so does an output
+// that is too short, which is `NoRoom` with line 0. There is no code here: the contracts of the parts cite it.
 #![tactic(auto)]
-
-// How many bytes were written; or a finding or refusal with its number and its line.
-#[derive(Clone, Copy)]
-pub enum Answer {
-    Written(usize),
-    Finding(u8, usize),
-    Refused(u8, usize),
-}

@@ -25,21 +25,21 @@ fn of_bool(b: bool) -> i64
 pub fn not(x: i64) -> i64
     ensures { result ≡ point.of_bool (not (point.truth x)) }
 {
-    if as_bool(x) { 0 } else { ONE }
+    of_bool(!as_bool(x))
 }
 
 // ONE where neither is 0, else 0.
 pub fn and(x: i64, y: i64) -> i64
     ensures { result ≡ point.of_bool (point.truth x && point.truth y) }
 {
-    if as_bool(x) { of_bool(as_bool(y)) } else { 0 }
+    of_bool(as_bool(x) && as_bool(y))
 }
 
 // ONE where one of the two is not 0, else 0.
 pub fn or(x: i64, y: i64) -> i64
     ensures { result ≡ point.of_bool (point.truth x || point.truth y) }
 {
-    if as_bool(x) { ONE } else { of_bool(as_bool(y)) }
+    of_bool(as_bool(x) || as_bool(y))
 }
 
 // ONE where x is at most y, else 0.

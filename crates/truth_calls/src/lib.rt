@@ -4,56 +4,57 @@
 
 ghost use Rattle.meaning.specs.Number as point;
 ghost use Rattle.meaning.specs.Promises.{Gives1, Gives2};
-ghost use Rattle.replies.specs.Returning.{returned, Cased};
+ghost use Rattle.replies.specs.Returning.{returned};
 
-use cores::Relation;
-use replies::Reply;
-use set_calls::{negated, related};
+use bools::of_set;
+use refusals::Cause;
+use replies::{Written, accept, accept_both};
+use set_calls::hand_bools;
 
 // The set of what `not` gives of all members: none, 0, 1000 or both.
-pub fn not(left: &[i64], out: &mut [i64]) -> Reply
+pub fn not(left: &[i64], out: &mut [i64]) -> Result<Written, Cause>
     ensures gives1 { Gives1 point.not' left.now out.old (returned result) out.new }
-    ensures cased { Cased result }
 {
-    negated(left, out)
+    accept(left)?;
+    hand_bools(out, bools::not(of_set(left)))
 }
 
 // A set that holds what `and` gives of all members: none, 0, 1000 or both; it may hold more where a set is empty.
-pub fn and(left: &[i64], right: &[i64], out: &mut [i64]) -> Reply
+pub fn and(left: &[i64], right: &[i64], out: &mut [i64]) -> Result<Written, Cause>
     ensures gives2 { Gives2 point.and left.now right.now out.old (returned result) out.new }
-    ensures cased { Cased result }
 {
-    related(Relation::And, left, right, out)
+    accept_both(left, right)?;
+    hand_bools(out, bools::and(of_set(left), of_set(right)))
 }
 
 // A set that holds what `or` gives of all members: none, 0, 1000 or both; it may hold more where a set is empty.
-pub fn or(left: &[i64], right: &[i64], out: &mut [i64]) -> Reply
+pub fn or(left: &[i64], right: &[i64], out: &mut [i64]) -> Result<Written, Cause>
     ensures gives2 { Gives2 point.or left.now right.now out.old (returned result) out.new }
-    ensures cased { Cased result }
 {
-    related(Relation::Or, left, right, out)
+    accept_both(left, right)?;
+    hand_bools(out, bools::or(of_set(left), of_set(right)))
 }
 
 // The set of what `<=` gives of all members: none, 0, 1000 or both.
-pub fn int_le(left: &[i64], right: &[i64], out: &mut [i64]) -> Reply
+pub fn int_le(left: &[i64], right: &[i64], out: &mut [i64]) -> Result<Written, Cause>
     ensures gives2 { Gives2 point.le left.now right.now out.old (returned result) out.new }
-    ensures cased { Cased result }
 {
-    related(Relation::Le, left, right, out)
+    accept_both(left, right)?;
+    hand_bools(out, bools::le(left, right))
 }
 
 // The set of what `<` gives of all members: none, 0, 1000 or both.
-pub fn int_lt(left: &[i64], right: &[i64], out: &mut [i64]) -> Reply
+pub fn int_lt(left: &[i64], right: &[i64], out: &mut [i64]) -> Result<Written, Cause>
     ensures gives2 { Gives2 point.lt left.now right.now out.old (returned result) out.new }
-    ensures cased { Cased result }
 {
-    related(Relation::Lt, left, right, out)
+    accept_both(left, right)?;
+    hand_bools(out, bools::lt(left, right))
 }
 
 // A set that holds what `!=` gives of all members: 0, 1000 or both; 1000 where a set is empty.
-pub fn int_ne(left: &[i64], right: &[i64], out: &mut [i64]) -> Reply
+pub fn int_ne(left: &[i64], right: &[i64], out: &mut [i64]) -> Result<Written, Cause>
     ensures gives2 { Gives2 point.ne left.now right.now out.old (returned result) out.new }
-    ensures cased { Cased result }
 {
-    related(Relation::Ne, left, right, out)
+    accept_both(left, right)?;
+    hand_bools(out, bools::ne(left, right))
 }

@@ -1,3 +1,4 @@
+pub mod Extremes
 pub mod Words
 pub mod Middle
 pub mod Order

@@ -1,9 +1,14 @@
 -- An exact number z as two words, z + 2^127 + 2^63, from its sign and its magnitude h·2^64 + l. Assumes nothing.
-use mathlib.Core.Path.{◌≡◌, ap}
-use Prim.Native.Nat.{ℕ, ◌+◌, ◌-◌, ◌*◌, ◌/◌, ◌%◌, ◌^◌, ◌≤◌, ◌<◌}
+use mathlib.Core.Path.{◌≡◌, ap, sym, ◌∙◌}
+use Rattle.std.proofs.Common.{ltb}
+use Rattle.std.proofs.lemmas.Bool.{ltb-true}
+use Rattle.laws.proofs.Integers.{never, by_test}
+use Prim.Native.Nat.{ℕ, suc, ◌+◌, ◌*◌, ◌/◌, ◌%◌, ◌^◌, ◌≤◌}
 use native.Mathlib.Nat.{div-add-mod'}
 use native.Mathlib.Omega.{arith}
-use lib.IntN.{ℤ, ◌*ℤ◌}
+use mathlib.Core.Bool.{true, false, beq}
+use lib.IntN.{ℤ, pos, negsuc, nat_abs, ◌*ℤ◌}
+use lib.Signed.{lt_z}
 use Rattle.words.proofs.Halves.{mul_mono}
 use Rattle.wide.proofs.Words.{Is, is_mul}
 
@@ -14,16 +19,6 @@ high_small a b h l ha hb e = small (omega (arith, e, mul_mono (2 ^ 63) (2 ^ 63) 
     small : h * 2 ^ 64 ≤ 2 ^ 126 → h ≤ 2 ^ 62
     small k = omega arith
 
--- the sign and the magnitude of the number whose word is w
-pub neg_size : {x : ℤ} {w s : ℕ} → w < 2 ^ 63 → s ≡ w - 2 ^ 63 + (2 ^ 63 - w) → Is x w (2 ^ 63) → Is x 0 s
-neg_size h e i = omega arith
-
-pub pos_size : {x : ℤ} {w s : ℕ} → 2 ^ 63 ≤ w → s ≡ w - 2 ^ 63 + (2 ^ 63 - w) → Is x w (2 ^ 63) → Is x s 0
-pos_size h e i = omega arith
-
-pub size_le : {w s : ℕ} → w < 2 ^ 64 → s ≡ w - 2 ^ 63 + (2 ^ 63 - w) → s ≤ 2 ^ 63
-size_le h e = omega arith
-
 -- with any M for 2^64 and any H for 2^63, so that `omega` sees no large number
 pub is_above : (M H : ℕ) {z : ℤ} (h l : ℕ) {n p q : ℕ} → Is z n 0 → h * M + l ≡ n
     → (p ≡ h + H + (l + H) / M) × (q ≡ (l + H) % M) → Is z (p * M + q) (H * M + H)
@@ -33,15 +28,24 @@ pub is_below : (M H : ℕ) {z : ℤ} (h l p q : ℕ) {n : ℕ} → Is z 0 n → 
     → (p + h + (q + l) / M ≡ H) × ((q + l) % M ≡ H) → Is z (p * M + q) (H * M + H)
 is_below M H h l p q i e (ep, eq) = omega (arith, div-add-mod' (q + l) M, ap (λ (k : ℕ). k * M) ep)
 
--- the product of two numbers by their signs and magnitudes
-pub is_pp : {x y : ℤ} {a b : ℕ} → Is x a 0 → Is y b 0 → Is (x *ℤ y) (a * b) 0
-is_pp {x} {y} h k = omega (arith, is_mul h k)
+-- the product of two numbers by their magnitudes, where their signs are equal and where they differ
+from_pos : (n : ℕ) → Is (pos n) n 0
+from_pos n = omega arith
 
-pub is_nn : {x y : ℤ} {a b : ℕ} → Is x 0 a → Is y 0 b → Is (x *ℤ y) (a * b) 0
-is_nn {x} {y} h k = omega (arith, is_mul h k)
+from_neg : (n : ℕ) → Is (negsuc n) 0 (suc n)
+from_neg n = omega arith
 
-pub is_pn : {x y : ℤ} {a b : ℕ} → Is x a 0 → Is y 0 b → Is (x *ℤ y) 0 (a * b)
-is_pn {x} {y} h k = omega (arith, is_mul h k)
+not_below : (a : ℕ) → lt_z (pos a) (pos 0) ≡ false
+not_below a = by_test (ltb a 0) (λ p. absurd (omega (arith, ltb-true a 0 p))) (λ p. p)
 
-pub is_np : {x y : ℤ} {a b : ℕ} → Is x 0 a → Is y b 0 → Is (x *ℤ y) 0 (a * b)
-is_np {x} {y} h k = omega (arith, is_mul h k)
+pub is_up : (x y : ℤ) → beq (lt_z x (pos 0)) (lt_z y (pos 0)) ≡ true → Is (x *ℤ y) (nat_abs x * nat_abs y) 0
+is_up (pos a) (pos b) e = omega (arith, is_mul (from_pos a) (from_pos b))
+is_up (negsuc a) (negsuc b) e = omega (arith, is_mul (from_neg a) (from_neg b))
+is_up (pos a) (negsuc b) e = never (sym e ∙ (λ i. beq (not_below a i) true))
+is_up (negsuc a) (pos b) e = never (sym e ∙ (λ i. beq true (not_below b i)))
+
+pub is_down : (x y : ℤ) → beq (lt_z x (pos 0)) (lt_z y (pos 0)) ≡ false → Is (x *ℤ y) 0 (nat_abs x * nat_abs y)
+is_down (pos a) (pos b) e = never (sym (λ i. beq (not_below a i) (not_below b i)) ∙ e)
+is_down (negsuc a) (negsuc b) e = never e
+is_down (pos a) (negsuc b) e = omega (arith, is_mul (from_pos a) (from_neg b))
+is_down (negsuc a) (pos b) e = omega (arith, is_mul (from_neg a) (from_pos b))

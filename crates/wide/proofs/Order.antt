@@ -1,19 +1,10 @@
 -- Numbers of two words in order: the upper words decide, and where they are equal the lower ones. Assumes nothing.
-use mathlib.Core.Path.{◌≡◌, sym, ◌∙◌}
-use lib.Dec.{leb}
-use borrow.Author.Tests.{le-leb, lt-leb, leb-true, leb-false}
-use Rattle.laws.proofs.Integers.{by_test}
+use mathlib.Core.Path.{◌≡◌}
 use Prim.Native.Nat.{ℕ, ◌+◌, ◌-◌, ◌*◌, ◌^◌, ◌≤◌, ◌<◌}
 use native.Mathlib.Omega.{arith}
 
 pub upper : {h k : ℕ} (l m : ℕ) → l < 2 ^ 64 → h < k → h * 2 ^ 64 + l < k * 2 ^ 64 + m
 upper l m b e = omega arith
-
-pub lower : {h k : ℕ} (l m : ℕ) → k ≤ h → h ≤ k → leb (h * 2 ^ 64 + l) (k * 2 ^ 64 + m) ≡ leb l m
-lower {h} {k} l m a b =
-    by_test (leb l m)
-    (λ t. let e = leb-true l m t in le-leb (h * 2 ^ 64 + l) (k * 2 ^ 64 + m) (omega arith) ∙ sym t)
-    (λ t. let e = leb-false l m t in lt-leb (h * 2 ^ 64 + l) (k * 2 ^ 64 + m) (omega arith) ∙ sym t)
 
 -- the distance from h·2^64 + u to k·2^64 + v against 2^64 − 1
 module _ (h k u v : ℕ) where

@@ -5,8 +5,6 @@ use Prim.Native.Nat.{ℕ, ◌+◌, ◌*◌, ◌/◌, ◌^◌, ◌≤◌, ◌<◌
 use native.Mathlib.Omega.{arith}
 use lib.IntN.{ℤ, pos, negsuc, ◌+ℤ◌, ◌-ℤ◌, ◌*ℤ◌, sub_ℕ}
 use lib.Signed.{◌≤ℤ◌, mag}
-use mir.Syntax.{w64}
-use mir.Val.{SFits}
 use mir.Facts.{to_z-of_z}
 use Rattle.meaning.specs.Number.{window, wrap}
 use Rattle.laws.proofs.Integers.{up, down, le_in, eq_in, eq_out, up_neg, down_neg, subℕ_parts, add_parts, sub_parts, mul_parts}
@@ -46,10 +44,6 @@ in_order h l o = omega (arith, le_in o)
 -- n is z + k
 pub plus : (z : ℤ) {n k : ℕ} → pos n ≡ z +ℤ pos k → Is z n k
 plus z {n} {k} e = omega (arith, add_parts z (pos k), eq_in e)
-
--- what `word` ensures of an argument x
-pub is_word : (x : ℤ) {n : ℕ} → SFits w64 x → pos n ≡ rd x +ℤ pos (2 ^ 63) → Is x n (2 ^ 63)
-is_word x f e = plus x (e ∙ ap (λ (z : ℤ). z +ℤ pos (2 ^ 63)) (to_z-of_z f))
 
 -- ---- the two words of an exact number
 

@@ -1,63 +1,29 @@
 // The least and the greatest of the products of the ends of two intervals.
 ghost use Rattle.std.specs.Prelude.{◌≡◌, ◌*ℤ◌};
-ghost use Rattle.std.specs.Int.Signed.{le_z};
-ghost use Rattle.meaning.specs.Number.{smaller, larger};
+ghost use Rattle.std.specs.Ordering.{ord_min, ord_max};
 ghost use Rattle.meaning.specs.Interval.{least_corner, greatest_corner};
-ghost use Rattle.wide.specs.Exact.{held};
+ghost use Rattle.wide.specs.Exact.{number_of};
 
 use crate::exact::exact;
 use crate::product::Wide;
 
-// Two exact numbers.
-#[derive(Clone, Copy)]
-pub struct Ends {
-    pub least: Wide,
-    pub greatest: Wide,
-}
-
-// Whether a is at most b.
-fn ordered(a: Wide, b: Wide) -> bool
-    ensures { result ≡ le_z (held a.hi a.lo) (held b.hi b.lo) }
+// The least and the greatest of four.
+pub fn extremes<T: Ord + Copy + Drop>(a: T, b: T, c: T, d: T) -> (T, T)
+    ensures least { result.0 ≡ ord_min T.cmp (ord_min T.cmp a b) (ord_min T.cmp c d) }
+    ensures greatest { result.1 ≡ ord_max T.cmp (ord_max T.cmp a b) (ord_max T.cmp c d) }
 {
-    let p = a.hi;
-    let q = b.hi;
-    if p < q {
-        return true;
-    }
-    if q < p {
-        return false;
-    }
-    let m = a.lo;
-    let n = b.lo;
-    m <= n
-}
-
-// The smaller of two exact numbers.
-fn least(a: Wide, b: Wide) -> Wide
-    ensures { held result.hi result.lo ≡ smaller (held a.hi a.lo) (held b.hi b.lo) }
-{
-    if ordered(a, b) { a } else { b }
-}
-
-// The larger of two exact numbers.
-fn greatest(a: Wide, b: Wide) -> Wide
-    ensures { held result.hi result.lo ≡ larger (held a.hi a.lo) (held b.hi b.lo) }
-{
-    if ordered(a, b) { b } else { a }
+    (a.min(b).min(c.min(d)), a.max(b).max(c.max(d)))
 }
 
 // The least and the greatest corner of [s,e] and [t,f].
-pub fn corners(s: i64, e: i64, t: i64, f: i64) -> Ends
-    ensures { (held result.least.hi result.least.lo ≡ least_corner ◌*ℤ◌ s e t f) × (held result.greatest.hi result.greatest.lo ≡ greatest_corner ◌*ℤ◌ s e t f) }
+// Kept: four ends in place of two intervals, since it asks nothing of their order.
+pub fn corners(s: i64, e: i64, t: i64, f: i64) -> (Wide, Wide)
+    ensures least { number_of result.0 ≡ least_corner ◌*ℤ◌ s e t f }
+    ensures greatest { number_of result.1 ≡ greatest_corner ◌*ℤ◌ s e t f }
 {
     let a = exact(s, t);
     let b = exact(s, f);
     let c = exact(e, t);
     let d = exact(e, f);
-    let p = least(least(a, b), least(c, d));
-    let q = greatest(greatest(a, b), greatest(c, d));
-    Ends {
-        least: p,
-        greatest: q,
-    }
+    extremes(a, b, c, d)
 }

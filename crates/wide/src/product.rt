@@ -4,13 +4,14 @@ ghost use Rattle.std.specs.Prelude.{◌≡◌, ◌+◌, ◌*◌, ◌^◌};
 use words::wrapping_mul_u64;
 
 // Two words, the upper and the lower.
-#[derive(Clone, Copy)]
+// Kept: two words in place of u128 are a rule of the project.
+#[derive(Clone, Copy, Debug, PartialEq, Eq, PartialOrd, Ord)]
 pub struct Wide {
     pub hi: u64,
     pub lo: u64,
 }
 
-// a times b over half words: the upper word by long multiplication in base 2^32, with its carries, and the lower one modulo 2^64.
+// a times b: the upper word by long multiplication in base 2^32, with its carries, and the lower one modulo 2^64.
 pub fn full(a: u64, b: u64) -> Wide
     ensures { result.hi * 2 ^ 64 + result.lo ≡ a * b }
 {

@@ -1,1 +1,1 @@
-mod TextLaws
+mod Intervals

@@ -2,13 +2,13 @@
 // Quotients go toward 0. Special is MIN: its negative and its quotient by -1 wrap to MIN.
 #![tactic(auto)]
 
-ghost use Rattle.std.specs.Prelude.{◌≡◌, ◌*◌, ◌%◌, ◌^◌, ◌≢◌, pos, ◌-ℤ◌, ◌*ℤ◌, ◌≤ℤ◌, int_div};
+ghost use Rattle.std.specs.Prelude.{◌≡◌, ◌≢◌, ◌*◌, ◌%◌, ◌^◌, pos, ◌-ℤ◌, ◌*ℤ◌, ◌≤ℤ◌, int_div};
 ghost use Rattle.meaning.specs.Number as point;
 ghost use Rattle.laws.proofs.Wrapping.{low};
 
-pub const MIN: i64 = -9223372036854775808;
+pub const MIN: i64 = i64::MIN;
 
-pub const MAX: i64 = 9223372036854775807;
+pub const MAX: i64 = i64::MAX;
 
 // The number after MIN, the least that has a positive counterpart.
 pub const MINUS_MAX: i64 = -MAX;
@@ -20,27 +20,18 @@ pub const ONE: i64 = 1000;
 pub const SIGN: u64 = 9223372036854775808;
 
 // The two's complement bits of x.
+// Kept: this and the calls below say what std's methods give in the words of `meaning`, once for all callers.
 pub fn bits(x: i64) -> u64
     ensures { result ≡ low x }
 {
-    if x < 0 {
-        let up = x + MAX + 1;
-        (up as u64) + SIGN
-    } else {
-        x as u64
-    }
+    x.cast_unsigned()
 }
 
 // The number with the bits w.
 pub fn of_bits(w: u64) -> i64
     ensures { result ≡ point.wrap (pos w) }
 {
-    if w < SIGN {
-        w as i64
-    } else {
-        let above = (w - SIGN) as i64;
-        above + MIN
-    }
+    w.cast_signed()
 }
 
 // How far e is above s, exact.
@@ -48,10 +39,11 @@ pub fn distance(s: i64, e: i64) -> u64
     requires { s ≤ℤ e }
     ensures { pos result ≡ e -ℤ s }
 {
-    std::num::wrapping_sub_u64(bits(e), bits(s))
+    bits(e).wrapping_sub(bits(s))
 }
 
 // a times b modulo 2^64, over half words: the product of the high halves falls out, and so do the high halves of the mixed products.
+// Kept: a multiply over half words is a rule of the project.
 pub fn wrapping_mul_u64(a: u64, b: u64) -> u64
     ensures { result ≡ a * b % 2 ^ 64 }
 {
@@ -59,8 +51,11 @@ pub fn wrapping_mul_u64(a: u64, b: u64) -> u64
     let a1 = a / 4294967296;
     let b0 = b % 4294967296;
     let b1 = b / 4294967296;
-    let mixed = std::num::wrapping_add_u64(a1 * b0, a0 * b1);
-    std::num::wrapping_add_u64(a0 * b0, mixed % 4294967296 * 4294967296)
+    let upper = a1 * b0;
+    let other = a0 * b1;
+    let lower = a0 * b0;
+    let mixed = upper.wrapping_add(other);
+    lower.wrapping_add(mixed % 4294967296 * 4294967296)
 }
 
 // The product of x and y as integers, wrapped.
@@ -74,7 +69,7 @@ pub fn wrapping_mul(x: i64, y: i64) -> i64
 pub fn neg(x: i64) -> i64
     ensures { result ≡ point.negative x }
 {
-    if x == MIN { x } else { -x }
+    x.wrapping_neg()
 }
 
 // x divided by ONE, toward 0.
@@ -89,5 +84,5 @@ pub fn quot(x: i64, y: i64) -> i64
     requires { y ≢ pos 0 }
     ensures { result ≡ point.wrap (int_div x y) }
 {
-    if y == -1 { neg(x) } else { x / y }
+    x.wrapping_div(y)
 }

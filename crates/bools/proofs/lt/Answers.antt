@@ -1,7 +1,7 @@
 -- A left start below a right end is a right end past a left start, and a left end at or past a right start the other way round.
 use mathlib.Core.Path.{sym, ap, ◌∙◌}
 use lib.Signed.{le_z, lt_z}
-use Rattle.meaning.specs.Bools.{BoolInterval}
+use Rattle.meaning.specs.Bools.{not_bools}
 use Rattle.meaning.specs.NumberIntervals.{intervals, le_bools, lt_bools}
 use Rattle.bools.proofs.Some.{some_swap}
 use Rattle.bools.proofs.lt.Goals as goal
@@ -11,6 +11,5 @@ unfolding le_bools lt_bools
 returns c =
     let l = intervals c.args.left.now in
     let r = intervals c.args.right.now in
-    let no = ap (λ (b : BoolInterval). b.btrue) c.le-b.ensures ∙ sym (some_swap (λ s e t f. le_z t e) l r) in
-    let yes = ap (λ (b : BoolInterval). b.bfalse) c.le-b.ensures ∙ sym (some_swap (λ s e t f. lt_z s f) l r) in
-    λ i. record { bfalse = no i; btrue = yes i }
+    c.not.ensures ∙ ap not_bools c.le.ensures
+    ∙ λ i. record { bfalse = sym (some_swap (λ s e t f. le_z t e) l r) i; btrue = sym (some_swap (λ s e t f. lt_z s f) l r) i }

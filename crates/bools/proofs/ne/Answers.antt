@@ -1,9 +1,15 @@
 -- The sets share a number just when their intersection has one.
+use native.Mathlib.Omega.{arith}
+use borrow.Author.Tests.{le-ltb, lt-ltb}
 use Rattle.bools.proofs.Some.{ne_apart, ne_shared}
 use Rattle.bools.proofs.ne.Goals as goal
 
-pub returns-then-n-eq0 : goal.returns-then-n-eq0
-returns-then-n-eq0 c = ne_apart _ _ _ c.meet-n.ensures.count c.if-n-eq0.true
+pub returns-then-not-shared : goal.returns-then-not-shared
+returns-then-not-shared c =
+    let z = le-ltb 0 c.meet-shared.result c.if-not-shared.true in
+    rw z (ne_apart _ _ _ c.meet-shared.ensures.count (omega (arith, c.if-not-shared.true)))
 
-pub returns : goal.returns
-returns c = ne_shared _ _ _ c.meet-n.ensures.count c.if-n-eq0.false _ c.same_number-one.ensures
+pub returns-else-not-shared : goal.returns-else-not-shared
+returns-else-not-shared c =
+    let z = lt-ltb 0 c.meet-shared.result c.if-not-shared.false in
+    rw z (ne_shared _ _ _ c.meet-shared.ensures.count (λ e. omega (arith, e, c.if-not-shared.false)) _ c.same_number.ensures)

@@ -1,10 +1,11 @@
-use Prim.Native.Nat.{◌-◌}
-use Rattle.closing.specs.Gaps.{gaps_of, Least}
-use Rattle.closing.proofs.Fronts.{Fronts, closed_ends}
+use mathlib.Core.Path.{◌≡◌}
+use Prim.Native.Nat.{◌+◌, ◌*◌}
+use lib.ListN.{length}
+use Rattle.closing.proofs.Fronts.{Fronts, Known, closed_ends, gaps_of}
 use Rattle.closing.proofs.close.Given as goal
 
-abbrev pub invariant-loop-k : goal.invariant-loop-k
-invariant-loop-k l = Fronts (closed_ends l.limit l.n l.initial.work) l.n l.m l.initial.work l.work l.k × Least (gaps_of l.m l.work) l.at l.least
-
-abbrev pub decreases-loop-k : goal.decreases-loop-k
-decreases-loop-k l = l.n - l.k
+abbrev pub invariant-loop-s : goal.invariant-loop-s
+invariant-loop-s l =
+    (length l.front ≡ l.m)
+    × Fronts (closed_ends l.limit l.n l.fn.work) l.n l.fn.work l.front (l.m + 2 * l.s-index)
+    × Known (gaps_of l.front) l.gap

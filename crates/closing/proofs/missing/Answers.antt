@@ -1,7 +1,6 @@
 -- The distance counts the next start too.
 use mathlib.Core.Path.{◌≡◌, ap, ◌∙◌}
 use Prim.Native.Nat.{ℕ, ◌-◌, ◌≤◌}
-use native.Mathlib.Omega.{arith}
 use lib.IntN.{ℤ, pos, nat_abs, suc_ℤ, ◌-ℤ◌}
 use lib.Signed.{◌<ℤ◌}
 use mir.Syntax.{w64}
@@ -30,5 +29,4 @@ pub returns : goal.returns
 unfolding missing distance
 returns c =
     let d = is c.args.s c.args.e c.distance.result c.ranges.s c.ranges.e c.distance.ensures in
-    let k = some c.args.e c.args.s c.distance.result c.requires d in
-    (ap (λ (z : ℤ). nat_abs z - 1) d, omega (arith, c.distance.type_inv, k))
+    ap (λ (z : ℤ). nat_abs z - 1) d

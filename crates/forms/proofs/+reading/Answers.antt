@@ -1,166 +1,94 @@
--- `forms::arg` and `forms::form` meet their contracts: each return is one case of the definition, and the brackets left fall at each call of a form.
-use mathlib.Core.Path.{sym, ap, ◌∙◌}
+-- `forms::read_arg` and `forms::read_form` meet their contracts: each return is one case of the definition, and the brackets left fall at each call of a form.
+use mathlib.Core.Path.{ap, ◌∙◌}
 use Prim.Native.Nat.{◌+◌}
-use mathlib.Core.Bool.{Bool}
-use Rattle.meaning.specs.Reading.{closed}
-use Rattle.literals.specs.Answer.{register_of}
-use Rattle.literals.proofs.Within.{byte_lt, rest_is}
-use Rattle.forms.specs.Answer.{sizes, got_of, head_of}
-use Rattle.forms.proofs.Within.{register_room, first_room, second_room}
-use Rattle.forms.proofs.Forms.{arg_none, arg_form, size_literal, size_bad, form_none, form_register, form_no_register, form_one, form_one_bad, form_two_bad, form_no_space, form_two, form_second_bad}
 use native.Mathlib.Omega.{arith}
+use Rattle.meaning.specs.Reading.{Algebra}
+use Rattle.literals.proofs.Within.{rest_is}
+use Rattle.forms.specs.Answer.{op1_of, op2_of}
+use Rattle.forms.proofs.Within.{register_room, register_small, first_room, second_room}
+use Rattle.forms.proofs.Forms.{closed_map, opened, arg_none, arg_form, arg_literal, arg_no_literal, form_none, form_register, form_no_register, form_one, form_no_one, form_no_first, form_no_space, form_two, form_no_second}
 use Rattle.forms.proofs.+reading.Goals as goal
 
-pub arg-returns-then-depth-eq0 : goal.arg-returns-then-depth-eq0
-arg-returns-then-depth-eq0 t c =
-    sym (arg_none sizes c.args.text.now c.args.depth c.at.ensures c.if-at-eq40.true c.if-depth-eq0.true)
+pub read_arg-returns-in_err-z-clause-value : goal.read_arg-returns-in_err-z-clause-value
+read_arg-returns-in_err-z-clause-value g t c =
+    rw c.from_residual.ensures (arg_no_literal (g.A.Algebra.algebra c.args.algebra.now) c.args.text.now c.args.depth c.at.ensures c.if-at-eq40.false (c.in_err-z.ensures))
 
-pub arg-returns-else-depth-eq0 : goal.arg-returns-else-depth-eq0
-arg-returns-else-depth-eq0 t c =
-    c.form.ensures ∙ sym (arg_form sizes c.args.text.now c.args.depth c.at.ensures c.if-at-eq40.true
-    c.if-depth-eq0.false)
+pub read_arg-returns-then-depth-eq0-clause-value : goal.read_arg-returns-then-depth-eq0-clause-value
+read_arg-returns-then-depth-eq0-clause-value g t c =
+    arg_none (g.A.Algebra.algebra c.args.algebra.now) c.args.text.now c.args.depth c.at.ensures c.if-at-eq40.true c.if-depth-eq0.true
 
-pub arg-returns-in-Is : goal.arg-returns-in-Is
-arg-returns-in-Is t c =
-    size_literal c.args.text.now c.args.depth c.at.ensures c.if-at-eq40.false c.read_literal.ensures
-    c.in-Is.is
+pub read_arg-returns-else-depth-eq0-clause-value : goal.read_arg-returns-else-depth-eq0-clause-value
+read_arg-returns-else-depth-eq0-clause-value g t c =
+    c.read_form.ensures.value ∙ arg_form (g.A.Algebra.algebra c.args.algebra.now) c.args.text.now c.args.depth c.at.ensures c.if-at-eq40.true c.if-depth-eq0.false
 
-pub arg-returns-in-Bad : goal.arg-returns-in-Bad
-arg-returns-in-Bad t c =
-    size_bad c.args.text.now c.args.depth c.at.ensures c.if-at-eq40.false c.read_literal.ensures
-    c.in-Bad.is
+pub read_arg-returns-in_ok-z-clause-value : goal.read_arg-returns-in_ok-z-clause-value
+read_arg-returns-in_ok-z-clause-value g t c =
+    arg_literal (g.A.Algebra.algebra c.args.algebra.now) c.args.text.now c.args.depth c.at.ensures c.if-at-eq40.false c.in_ok-z.ensures c.literal.ensures.value
 
-pub form-overflow_add-k : goal.form-overflow_add-k
-form-overflow_add-k t c =
-    omega (
-      arith,
-      register_room c.args.text.now c.well_formed.0.1 c.start-k.ensures c.tail.ensures
-          (sym c.read_register.ensures ∙ ap register_of c.in-Is.is),
-    )
+pub read_form-returns-in_err-read_head-clause-value : goal.read_form-returns-in_err-read_head-clause-value
+read_form-returns-in_err-read_head-clause-value g t c =
+    rw c.from_residual.ensures (form_none (g.A.Algebra.algebra c.args.algebra.now) c.args.text.now c.args.depth (c.in_err-read_head.ensures))
 
-pub form-closed-requires : goal.form-closed-requires
-form-closed-requires t c =
-    omega (
-      arith,
-      register_room c.args.text.now c.well_formed.0.1 c.start-k.ensures c.tail.ensures
-          (sym c.read_register.ensures ∙ ap register_of c.in-Is.is),
-    )
+pub read_form-returns-in_err-r-in-Reg-clause-value : goal.read_form-returns-in_err-r-in-Reg-clause-value
+read_form-returns-in_err-r-in-Reg-clause-value g t c =
+    rw c.from_residual-in_err-r-in-Reg.ensures (form_no_register (g.A.Algebra.algebra c.args.algebra.now) c.args.text.now c.args.depth c.start-k.ensures c.tail.ensures (opened c.args.text.now c.in-Reg.is c.in_ok-read_head.ensures) (c.in_err-r-in-Reg.ensures))
 
-pub form-overflow_add-k-in-Bytes : goal.form-overflow_add-k-in-Bytes
-form-overflow_add-k-in-Bytes t c =
-    omega (
-      arith,
-      first_room c.args.text.now c.well_formed.0.1 c.start-k.ensures sizes c.args.depth c.tail-in-One.ensures
-          c.arg.ensures (ap got_of c.in-Bytes.is),
-    )
+pub read_form-overflow_add-k : goal.read_form-overflow_add-k
+read_form-overflow_add-k g t c =
+    omega (arith, register_room c.args.text.now c.well_formed.0.1 c.start-k.ensures c.tail.ensures c.in_ok-r-in-Reg.ensures)
 
-pub form-closed-requires-in-Bytes : goal.form-closed-requires-in-Bytes
-form-closed-requires-in-Bytes t c =
-    omega (
-      arith,
-      first_room c.args.text.now c.well_formed.0.1 c.start-k.ensures sizes c.args.depth c.tail-in-One.ensures
-          c.arg.ensures (ap got_of c.in-Bytes.is),
-    )
+pub read_form-register-requires : goal.read_form-register-requires
+read_form-register-requires g t c =
+    register_small c.tail.result.now c.in_ok-r-in-Reg.ensures
 
-pub form-overflow_add-k-in-Bytes-arg : goal.form-overflow_add-k-in-Bytes-arg
-form-overflow_add-k-in-Bytes-arg t c =
-    omega (
-      arith,
-      first_room c.args.text.now c.well_formed.0.1 c.start-k.ensures sizes c.args.depth c.tail-in-Two.ensures
-          c.arg-in-Two.ensures (ap got_of c.in-Bytes-arg.is),
-    )
+pub read_form-closed-requires : goal.read_form-closed-requires
+read_form-closed-requires g t c =
+    omega (arith, register_room c.args.text.now c.well_formed.0.1 c.start-k.ensures c.tail.ensures c.in_ok-r-in-Reg.ensures)
 
-pub form-returns-then-at-ne32 : goal.form-returns-then-at-ne32
-form-returns-then-at-ne32 t c =
-    sym (form_no_space sizes c.args.text.now c.args.depth c.start-k.ensures c.read_head.ensures c.tail-in-Two.ensures
-    c.arg-in-Two.ensures (ap head_of c.in-Two.is) (ap got_of c.in-Bytes-arg.is)
-    c.at.ensures c.if-at-ne32.true)
+pub read_form-returns-in_err-a-in-One-clause-value : goal.read_form-returns-in_err-a-in-One-clause-value
+read_form-returns-in_err-a-in-One-clause-value g t c =
+    rw c.from_residual-in_err-a-in-One.ensures (form_no_one (g.A.Algebra.algebra c.args.algebra.now) c.args.text.now c.args.depth c.start-k.ensures c.tail-in-One.ensures (opened c.args.text.now c.in-One.is c.in_ok-read_head.ensures) (c.in_err-a-in-One.ensures.value))
 
-pub form-overflow_add-j : goal.form-overflow_add-j
-form-overflow_add-j t c =
-    omega (
-      arith,
-      first_room c.args.text.now c.well_formed.0.1 c.start-k.ensures sizes c.args.depth c.tail-in-Two.ensures
-          c.arg-in-Two.ensures (ap got_of c.in-Bytes-arg.is),
-    )
+pub read_form-overflow_add-k-in-One : goal.read_form-overflow_add-k-in-One
+read_form-overflow_add-k-in-One g t c =
+    omega (arith, first_room c.args.text.now c.well_formed.0.1 c.start-k.ensures (g.A.Algebra.algebra c.args.algebra.now) c.args.depth c.tail-in-One.ensures c.in_ok-a-in-One.ensures.value)
 
-pub form-overflow_add-j-in-Bytes-arg : goal.form-overflow_add-j-in-Bytes-arg
-form-overflow_add-j-in-Bytes-arg t c =
-    omega (
-      arith,
-      first_room c.args.text.now c.well_formed.0.1 c.start-k.ensures sizes c.args.depth c.tail-in-Two.ensures
-          c.arg-in-Two.ensures (ap got_of c.in-Bytes-arg.is),
-    )
+pub read_form-closed-requires-in-One : goal.read_form-closed-requires-in-One
+read_form-closed-requires-in-One g t c =
+    omega (arith, first_room c.args.text.now c.well_formed.0.1 c.start-k.ensures (g.A.Algebra.algebra c.args.algebra.now) c.args.depth c.tail-in-One.ensures c.in_ok-a-in-One.ensures.value)
 
-pub form-slice_bounds-arg-count : goal.form-slice_bounds-arg-count
-form-slice_bounds-arg-count t c =
-    omega (arith, byte_lt c.args.text.now (c.start-k.result + c.in-Bytes-arg.n) (omega (arith, c.at.ensures, c.if-at-ne32.false)))
+pub read_form-returns-in_err-a-in-Two-clause-value : goal.read_form-returns-in_err-a-in-Two-clause-value
+read_form-returns-in_err-a-in-Two-clause-value g t c =
+    rw c.from_residual-in_err-a-in-Two.ensures (form_no_first (g.A.Algebra.algebra c.args.algebra.now) c.args.text.now c.args.depth c.start-k.ensures c.tail-in-Two.ensures (opened c.args.text.now c.in-Two.is c.in_ok-read_head.ensures) (c.in_err-a-in-Two.ensures.value))
 
-pub form-slice_bounds-arg-start : goal.form-slice_bounds-arg-start
-form-slice_bounds-arg-start t c = omega (arith, form-slice_bounds-arg-count t c)
+pub read_form-overflow_add-k-in-Two : goal.read_form-overflow_add-k-in-Two
+read_form-overflow_add-k-in-Two g t c =
+    omega (arith, first_room c.args.text.now c.well_formed.0.1 c.start-k.ensures (g.A.Algebra.algebra c.args.algebra.now) c.args.depth c.tail-in-Two.ensures c.in_ok-a-in-Two.ensures.value)
 
-pub form-slice_bounds-arg-end : goal.form-slice_bounds-arg-end
-form-slice_bounds-arg-end t c = omega (arith, form-slice_bounds-arg-count t c)
+pub read_form-returns-then-at-ne32-clause-value : goal.read_form-returns-then-at-ne32-clause-value
+read_form-returns-then-at-ne32-clause-value g t c =
+    form_no_space (g.A.Algebra.algebra c.args.algebra.now) c.args.text.now c.args.depth c.start-k.ensures c.tail-in-Two.ensures (opened c.args.text.now c.in-Two.is c.in_ok-read_head.ensures) c.in_ok-a-in-Two.ensures.value c.at.ensures c.if-at-ne32.true
 
-pub form-overflow_add-j-in-Bytes-arg-2 : goal.form-overflow_add-j-in-Bytes-arg-2
-form-overflow_add-j-in-Bytes-arg-2 t c =
-    omega (
-      arith,
-      second_room c.args.text.now c.well_formed.0.1 (c.start-k.result + c.in-Bytes-arg.n)
-          (omega (arith, c.at.ensures, c.if-at-ne32.false)) sizes c.args.depth
-          (rest_is c.args.text.now (c.start-k.result + c.in-Bytes-arg.n + 1)) c.arg-in-Bytes-arg.ensures (ap got_of c.in-Bytes-arg-2.is),
-    )
+pub read_form-returns-in_err-b-in-Two-clause-value : goal.read_form-returns-in_err-b-in-Two-clause-value
+read_form-returns-in_err-b-in-Two-clause-value g t c =
+    rw c.from_residual-in_err-b-in-Two.ensures (form_no_second (g.A.Algebra.algebra c.args.algebra.now) c.args.text.now c.args.depth c.start-k.ensures c.tail-in-Two.ensures (opened c.args.text.now c.in-Two.is c.in_ok-read_head.ensures) c.in_ok-a-in-Two.ensures.value c.at.ensures c.if-at-ne32.false c.in_ok-a-in-Two.ensures.same (rest_is c.args.text.now ((c.start-k.result + c.in_ok-a-in-Two.a.len) + 1)) (c.in_err-b-in-Two.ensures.value))
 
-pub form-closed-requires-in-Bytes-arg-2 : goal.form-closed-requires-in-Bytes-arg-2
-form-closed-requires-in-Bytes-arg-2 t c =
-    omega (
-      arith,
-      second_room c.args.text.now c.well_formed.0.1 (c.start-k.result + c.in-Bytes-arg.n) (omega (arith, c.at.ensures, c.if-at-ne32.false)) sizes
-          c.args.depth (rest_is c.args.text.now (c.start-k.result + c.in-Bytes-arg.n + 1)) c.arg-in-Bytes-arg.ensures
-          (ap got_of c.in-Bytes-arg-2.is),
-    )
+pub read_form-overflow_add-j-in-Two-2 : goal.read_form-overflow_add-j-in-Two-2
+read_form-overflow_add-j-in-Two-2 g t c =
+    omega (arith, second_room c.args.text.now c.well_formed.0.1 (c.start-k.result + c.in_ok-a-in-Two.a.len) (omega (arith, c.at.ensures, c.if-at-ne32.false)) _ c.args.depth (rest_is c.args.text.now ((c.start-k.result + c.in_ok-a-in-Two.a.len) + 1)) c.in_ok-b-in-Two.ensures.value)
 
-pub form-returns-in-Is : goal.form-returns-in-Is
-form-returns-in-Is t c =
-    c.closed.ensures ∙ sym (form_register sizes c.args.text.now c.args.depth c.start-k.ensures c.read_head.ensures
-    c.tail.ensures c.read_register.ensures (ap head_of c.in-Reg.is)
-    (ap register_of c.in-Is.is))
+pub read_form-closed-requires-in-Two : goal.read_form-closed-requires-in-Two
+read_form-closed-requires-in-Two g t c =
+    omega (arith, second_room c.args.text.now c.well_formed.0.1 (c.start-k.result + c.in_ok-a-in-Two.a.len) (omega (arith, c.at.ensures, c.if-at-ne32.false)) _ c.args.depth (rest_is c.args.text.now ((c.start-k.result + c.in_ok-a-in-Two.a.len) + 1)) c.in_ok-b-in-Two.ensures.value)
 
-pub form-returns-in-None-read_register : goal.form-returns-in-None-read_register
-form-returns-in-None-read_register t c =
-    sym (form_no_register sizes c.args.text.now c.args.depth c.start-k.ensures c.read_head.ensures c.tail.ensures
-    c.read_register.ensures (ap head_of c.in-Reg.is) (ap register_of c.in-None-read_register.is))
+pub read_form-returns-in_ok-r-in-Reg-clause-value : goal.read_form-returns-in_ok-r-in-Reg-clause-value
+read_form-returns-in_ok-r-in-Reg-clause-value g t c =
+    rw c.closed.ensures (closed_map g.A.Algebra.meaning c.args.text.now _ _ c.register.ensures.value ∙ form_register (g.A.Algebra.algebra c.args.algebra.now) c.args.text.now c.args.depth c.start-k.ensures c.tail.ensures (opened c.args.text.now c.in-Reg.is c.in_ok-read_head.ensures) c.in_ok-r-in-Reg.ensures)
 
-pub form-returns-in-Bytes : goal.form-returns-in-Bytes
-form-returns-in-Bytes t c =
-    c.closed-in-Bytes.ensures ∙ sym (form_one sizes c.args.text.now c.args.depth c.start-k.ensures c.read_head.ensures
-    c.tail-in-One.ensures c.arg.ensures (ap head_of c.in-One.is)
-    (ap got_of c.in-Bytes.is))
+pub read_form-returns-in_ok-a-in-One-clause-value : goal.read_form-returns-in_ok-a-in-One-clause-value
+read_form-returns-in_ok-a-in-One-clause-value g t c =
+    rw c.closed-in-One.ensures (closed_map g.A.Algebra.meaning c.args.text.now _ _ (c.one.ensures.value ∙ ap (λ (alg : Algebra g.A.Algebra.Meaning). alg.on1 (op1_of c.in-One.op) (g.A.Algebra.meaning c.in_ok-a-in-One.a.value)) c.in_ok-a-in-One.ensures.same) ∙ form_one (g.A.Algebra.algebra c.args.algebra.now) c.args.text.now c.args.depth c.start-k.ensures c.tail-in-One.ensures (opened c.args.text.now c.in-One.is c.in_ok-read_head.ensures) c.in_ok-a-in-One.ensures.value)
 
-pub form-returns-in-Bad : goal.form-returns-in-Bad
-form-returns-in-Bad t c =
-    sym (form_one_bad sizes c.args.text.now c.args.depth c.start-k.ensures c.read_head.ensures c.tail-in-One.ensures
-    c.arg.ensures (ap head_of c.in-One.is) (ap got_of c.in-Bad.is))
-
-pub form-returns-in-Bytes-arg-2 : goal.form-returns-in-Bytes-arg-2
-form-returns-in-Bytes-arg-2 t c =
-    c.closed-in-Bytes-arg-2.ensures ∙ ap (λ (b : Bool). closed c.args.text.now (c.start-k.result + c.in-Bytes-arg.n + 1 + c.in-Bytes-arg-2.m) b) c.either.ensures ∙ sym
-    (form_two sizes c.args.text.now c.args.depth c.start-k.ensures c.read_head.ensures c.tail-in-Two.ensures c.arg-in-Two.ensures (ap head_of c.in-Two.is)
-    (ap got_of c.in-Bytes-arg.is) c.at.ensures c.if-at-ne32.false (rest_is c.args.text.now (c.start-k.result + c.in-Bytes-arg.n + 1))
-    c.arg-in-Bytes-arg.ensures (ap got_of c.in-Bytes-arg-2.is))
-
-pub form-returns-in-Bad-arg-2 : goal.form-returns-in-Bad-arg-2
-form-returns-in-Bad-arg-2 t c =
-    sym (form_second_bad sizes c.args.text.now c.args.depth c.start-k.ensures c.read_head.ensures c.tail-in-Two.ensures c.arg-in-Two.ensures
-    (ap head_of c.in-Two.is) (ap got_of c.in-Bytes-arg.is) c.at.ensures c.if-at-ne32.false
-    (rest_is c.args.text.now (c.start-k.result + c.in-Bytes-arg.n + 1)) c.arg-in-Bytes-arg.ensures (ap got_of c.in-Bad-arg-2.is))
-
-pub form-returns-in-Bad-arg : goal.form-returns-in-Bad-arg
-form-returns-in-Bad-arg t c =
-    sym (form_two_bad sizes c.args.text.now c.args.depth c.start-k.ensures c.read_head.ensures c.tail-in-Two.ensures
-    c.arg-in-Two.ensures (ap head_of c.in-Two.is) (ap got_of c.in-Bad-arg.is))
-
-pub form-returns-in-None : goal.form-returns-in-None
-form-returns-in-None t c =
-    sym (form_none sizes c.args.text.now c.args.depth c.start-k.ensures c.read_head.ensures
-    (ap head_of c.in-None.is))
+pub read_form-returns-in_ok-b-in-Two-clause-value : goal.read_form-returns-in_ok-b-in-Two-clause-value
+read_form-returns-in_ok-b-in-Two-clause-value g t c =
+    rw c.closed-in-Two.ensures (closed_map g.A.Algebra.meaning c.args.text.now _ _ (c.two.ensures.value ∙ ap (λ (alg : Algebra g.A.Algebra.Meaning). alg.on2 (op2_of c.in-Two.op) (g.A.Algebra.meaning c.in_ok-a-in-Two.a.value) (g.A.Algebra.meaning c.in_ok-b-in-Two.b.value)) (c.in_ok-b-in-Two.ensures.same ∙ c.in_ok-a-in-Two.ensures.same)) ∙ form_two (g.A.Algebra.algebra c.args.algebra.now) c.args.text.now c.args.depth c.start-k.ensures c.tail-in-Two.ensures (opened c.args.text.now c.in-Two.is c.in_ok-read_head.ensures) c.in_ok-a-in-Two.ensures.value c.at.ensures c.if-at-ne32.false c.in_ok-a-in-Two.ensures.same (rest_is c.args.text.now ((c.start-k.result + c.in_ok-a-in-Two.a.len) + 1)) (c.in_ok-b-in-Two.ensures.value))

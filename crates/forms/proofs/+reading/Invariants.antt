@@ -1,8 +1,8 @@
 use Prim.Native.Nat.{◌+◌}
 use Rattle.forms.proofs.+reading.Given as goal
 
-abbrev pub decreases-arg : goal.decreases-arg
-decreases-arg l = l.depth + l.depth
+abbrev pub decreases-read_arg : goal.decreases-read_arg
+decreases-read_arg g l = l.depth + l.depth
 
-abbrev pub decreases-form : goal.decreases-form
-decreases-form l = l.depth + l.depth + 1
+abbrev pub decreases-read_form : goal.decreases-read_form
+decreases-read_form g l = l.depth + l.depth + 1

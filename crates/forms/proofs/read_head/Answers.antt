@@ -1,6 +1,5 @@
--- `forms::read_head` meets its contract: bytes below 256 are told by their packed number.
+-- `forms::read_head` meets its contract: the word is told by the form's first five bytes.
 use mathlib.Core.Path.{◌∙◌}
-use native.Mathlib.Omega.{arith}
 use Rattle.forms.proofs.Words.{head_none, head_short, head_long, head_open}
 use Rattle.forms.proofs.read_head.Goals as goal
 
@@ -9,29 +8,15 @@ returns-then-at-ne40 c = head_none c.args.text.now c.at.ensures c.if-at-ne40.tru
 
 pub returns-then-c-eq32 : goal.returns-then-c-eq32
 returns-then-c-eq32 c =
-    let at2 = c.at-2 in
-    let if1 = c.if-at-ne40 in
-    let at = c.at in
-    c.short_word.ensures ∙ rw (c.letter-a.ensures, c.letter-b.ensures) (head_short
-    c.args.text.now at.ensures if1.false at2.ensures c.at-3.ensures c.at-c.ensures (omega arith)
-    (omega arith) (omega arith) c.if-c-eq32.true)
+    c.short_word.ensures ∙ head_short c.args.text.now c.at.ensures c.if-at-ne40.false c.at-a.ensures
+    c.at-b.ensures c.at-c.ensures c.if-c-eq32.true
 
 pub returns-then-at-eq32 : goal.returns-then-at-eq32
 returns-then-at-eq32 c =
-    let letter2 = c.letter-b in
-    let at3 = c.at-3 in
-    let letter = c.letter-a in
-    let at2 = c.at-2 in
-    let if1 = c.if-at-ne40 in
-    let at = c.at in
-    c.long_word.ensures ∙ rw (letter.ensures, letter2.ensures, c.letter.ensures) (head_long c.args.text.now at.ensures if1.false at2.ensures
-    at3.ensures c.at-c.ensures (omega arith) (omega arith) (omega arith) c.if-c-eq32.false
-    c.at-4.ensures c.if-at-eq32.true)
+    c.long_word.ensures ∙ head_long c.args.text.now c.at.ensures c.if-at-ne40.false c.at-a.ensures
+    c.at-b.ensures c.at-c.ensures c.if-c-eq32.false c.at-2.ensures c.if-at-eq32.true
 
 pub returns-else-at-eq32 : goal.returns-else-at-eq32
 returns-else-at-eq32 c =
-    let at2 = c.at-2 in
-    let if1 = c.if-at-ne40 in
-    let at = c.at in
-    head_open c.args.text.now at.ensures if1.false at2.ensures c.at-3.ensures c.at-c.ensures
-    (omega arith) (omega arith) (omega arith) c.if-c-eq32.false c.at-4.ensures c.if-at-eq32.false
+    head_open c.args.text.now c.at.ensures c.if-at-ne40.false c.at-a.ensures c.at-b.ensures
+    c.at-c.ensures c.if-c-eq32.false c.at-2.ensures c.if-at-eq32.false

@@ -1,22 +1,24 @@
 -- `lines::read_line` meets its contract: the first word tells the kind.
-use mathlib.Core.Path.{◌∙◌}
-use Rattle.lines.proofs.Lines.{line_in, line_put, line_hold, line_none}
+use Rattle.std.proofs.Common.{◌≡◌, ap, ◌∙◌, rules, Err, true, false}
+use Rattle.lines.specs.Answer.{line_from}
+use Rattle.lines.proofs.Lines.{line_in, line_hold}
 use Rattle.lines.proofs.read_line.Goals as goal
 
-pub returns-then-begins : goal.returns-then-begins
-returns-then-begins c = c.kind_line.ensures ∙ line_in c.args.text.now c.begins.ensures c.if-begins.true
+pub returns-in_ok-register : goal.returns-in_ok-register
+returns-in_ok-register c = c.in_ok-register.ensures c.args.text.now 4 false c.in-Some.ensures.cases.1 ∙ line_in c.args.text.now c.in-Some.ensures.cases.0
 
-pub returns-then-begins-2 : goal.returns-then-begins-2
-returns-then-begins-2 c =
-    c.kind_line-then-begins-2.ensures ∙ line_put c.args.text.now c.begins.ensures c.if-begins.false c.begins-2.ensures
-    c.if-begins-2.true
+pub returns-in_err-register : goal.returns-in_err-register
+returns-in_err-register c =
+    let x : c.from_residual.result ≡ Err c.in_err-register.field-0.0 = search rules in
+    ap (line_from c.args.text.now) x ∙ c.in_err-register.ensures c.args.text.now 4 false c.in-Some.ensures.cases.1 ∙ line_in c.args.text.now c.in-Some.ensures.cases.0
 
-pub returns-then-begins-3 : goal.returns-then-begins-3
-returns-then-begins-3 c =
-    c.kind_line-then-begins-3.ensures ∙ line_hold c.args.text.now c.begins.ensures c.if-begins.false c.begins-2.ensures c.if-begins-2.false
-    c.begins-3.ensures c.if-begins-3.true
+pub returns-in_ok-register-2 : goal.returns-in_ok-register-2
+returns-in_ok-register-2 c =
+    c.in_ok-register-2.ensures c.args.text.now 6 true c.in-Some-strip_prefix-2.ensures.cases.1
+    ∙ line_hold c.args.text.now c.in_default.ensures.cases c.in_default-strip_prefix.ensures.cases c.in-Some-strip_prefix-2.ensures.cases.0
 
-pub returns-else-begins-3 : goal.returns-else-begins-3
-returns-else-begins-3 c =
-    line_none c.args.text.now c.begins.ensures c.if-begins.false c.begins-2.ensures c.if-begins-2.false c.begins-3.ensures
-    c.if-begins-3.false
+pub returns-in_err-register-2 : goal.returns-in_err-register-2
+returns-in_err-register-2 c =
+    let x : c.from_residual-in_err-register-2.result ≡ Err c.in_err-register-2.field-0.0 = search rules in
+    ap (line_from c.args.text.now) x ∙ c.in_err-register-2.ensures c.args.text.now 6 true c.in-Some-strip_prefix-2.ensures.cases.1
+    ∙ line_hold c.args.text.now c.in_default.ensures.cases c.in_default-strip_prefix.ensures.cases c.in-Some-strip_prefix-2.ensures.cases.0

@@ -1,27 +1,30 @@
 -- What was read of the line says which register it writes. Assumes nothing.
-use Rattle.listed.proofs.Marks.{input_marks, put_marks, hold_marks, refused_marks}
+use Rattle.std.proofs.Common.{◌≡◌, Ok}
+use Rattle.lines.specs.declared.Line.TheVariants.{In, Put, Hold}
+use Rattle.listed.proofs.Marks.{input_marks, put_marks, hold_marks}
 use Rattle.listed.proofs.mark.Goals as goal
 
 pub bounds-marks-r : goal.bounds-marks-r
 bounds-marks-r c =
-    (input_marks c.args.line.now c.read_line.ensures c.requires c.in-In.is).there
+    let e : c.read_line.result ≡ Ok (In c.in-Ok-In.r c.in-Ok-In.field-0-1) = cc in
+    (input_marks c.args.line.now c.read_line.ensures c.requires e).there
 
-pub bounds-marks-r-in-Put : goal.bounds-marks-r-in-Put
-bounds-marks-r-in-Put c =
-    (put_marks c.args.line.now c.read_line.ensures c.requires c.in-Put.is).there
+pub bounds-marks-r-in-Ok-Put : goal.bounds-marks-r-in-Ok-Put
+bounds-marks-r-in-Ok-Put c =
+    let e : c.read_line.result ≡ Ok (Put c.in-Ok-Put.r c.in-Ok-Put.field-0-1) = cc in
+    (put_marks c.args.line.now c.read_line.ensures c.requires e).there
 
-pub returns-in-In : goal.returns-in-In
-returns-in-In c =
-    (input_marks c.args.line.now c.read_line.ensures c.requires c.in-In.is).marked c.args.marks.now
+pub returns-in-Ok-In : goal.returns-in-Ok-In
+returns-in-Ok-In c =
+    let e : c.read_line.result ≡ Ok (In c.in-Ok-In.r c.in-Ok-In.field-0-1) = cc in
+    (input_marks c.args.line.now c.read_line.ensures c.requires e).marked c.args.marks.now
 
-pub returns-in-Put : goal.returns-in-Put
-returns-in-Put c =
-    (put_marks c.args.line.now c.read_line.ensures c.requires c.in-Put.is).marked c.args.marks.now
+pub returns-in-Ok-Put : goal.returns-in-Ok-Put
+returns-in-Ok-Put c =
+    let e : c.read_line.result ≡ Ok (Put c.in-Ok-Put.r c.in-Ok-Put.field-0-1) = cc in
+    (put_marks c.args.line.now c.read_line.ensures c.requires e).marked c.args.marks.now
 
-pub returns-in-Hold : goal.returns-in-Hold
-returns-in-Hold c =
-    hold_marks c.args.line.now c.read_line.ensures c.requires c.in-Hold.is c.args.marks.now
-
-pub returns-in-Refused : goal.returns-in-Refused
-returns-in-Refused c =
-    refused_marks c.args.line.now c.read_line.ensures c.requires c.in-Refused.is c.args.marks.now
+pub returns-in-Ok-Hold : goal.returns-in-Ok-Hold
+returns-in-Ok-Hold c =
+    let e : c.read_line.result ≡ Ok (Hold c.in-Ok-Hold.field-0-0 c.in-Ok-Hold.field-0-1) = cc in
+    hold_marks c.args.line.now c.read_line.ensures c.requires e c.args.marks.now

@@ -1,33 +1,14 @@
--- `literals::digits` meets its contract. The invariant: the digits in all are those passed and those from i on.
-use native.Mathlib.Omega.{arith}
-use Rattle.literals.proofs.Literals.{digits_more, digits_low, digits_high, digits_end}
+-- `literals::digits` meets its contract: the digits that the chain takes are the definition's.
+use Rattle.std.proofs.Common.{◌∙◌, rules, tests}
+use Rattle.std.proofs.lemmas.Iterator.{YieldsList-from_slice}
+use Rattle.std.proofs.lemmas.Iterator.Consumers.{count_from_yields_List}
+use Rattle.std.proofs.lemmas.Iterator.Search.{YieldsList-from_take_while}
+use Rattle.std.specs.Char.{is_ascii_digit}
+use Rattle.literals.proofs.Literals.{digits_are}
 use Rattle.literals.proofs.digits.Goals as goal
 
-pub loop-i-init : goal.loop-i-init
-loop-i-init c = omega arith
-
-pub bounds-text-i : goal.bounds-text-i
-bounds-text-i c = omega arith
-
-pub returns-then-text-i-lt48 : goal.returns-then-text-i-lt48
-returns-then-text-i-lt48 c = omega (arith, digits_low c.args.text.now c.loop-i.i (omega arith) (omega arith))
-
-pub bounds-text-i-in-loop-i : goal.bounds-text-i-in-loop-i
-bounds-text-i-in-loop-i c = omega arith
-
-pub returns-then-text-i-gt57 : goal.returns-then-text-i-gt57
-returns-then-text-i-gt57 c =
-    omega (arith, digits_high c.args.text.now c.loop-i.i (omega arith) (omega arith) (omega arith))
-
-pub overflow_add-i : goal.overflow_add-i
-overflow_add-i c = omega arith
-
-pub loop-i-smaller : goal.loop-i-smaller
-loop-i-smaller c = omega arith
-
-pub loop-i-preserved : goal.loop-i-preserved
-loop-i-preserved c =
-    omega (arith, digits_more c.args.text.now c.loop-i.i (omega arith) (omega arith) (omega arith))
-
 pub returns : goal.returns
-returns c = omega (arith, digits_end c.args.text.now c.loop-i.i (omega arith))
+returns c =
+    count_from_yields_List c.take_while.result _ c.count.ensures.ran
+    (YieldsList-from_take_while _ is_ascii_digit (YieldsList-from_slice c.args.text.now cc) c.take_while.ensures.closure c.take_while.ensures.done (λ x b q k. search (rules, tests)))
+    ∙ digits_are c.args.text.now

@@ -1,7 +1,7 @@
 -- It is 1000 times the dividend, wrapped, then divided, wrapping, as the definition has it.
 -- Assumes nothing.
 use Rattle.std.proofs.Common.{◌≡◌, true, false, ℤ, pos, ◌*ℤ◌, sym, ap, ◌∙◌, to_z-of_z}
-use mathlib.Core.Option.{some}
+use Rattle.std.specs.Prelude.{Some}
 use lib.Signed.{quot_z}
 use Rattle.meaning.specs.Number.{ONE, eq_z, wrap, quotient}
 use Rattle.laws.proofs.Integers.{zarith, if_yes, if_no}
@@ -25,4 +25,4 @@ returns-else-y-eq0 c =
     let m = to_z-of_z (ok c.wrapping_mul.type_inv) ∙ c.wrapping_mul.ensures ∙ ap (λ (z : ℤ). wrap (ONE *ℤ z)) (to_z-of_z c.ranges.x) in
     let d = differ c.args.y (pos 0) c.if-y-eq0.false in
     let t : eq_z c.args.y (pos 0) ≡ false = omega zarith in
-    ap some (to_z-of_z (ok c.quot.type_inv) ∙ c.quot.ensures ∙ (λ i. wrap (quot_z (m i) (to_z-of_z c.ranges.y i)))) ∙ if_no _ _ t
+    ap Some (to_z-of_z (ok c.quot.type_inv) ∙ c.quot.ensures ∙ (λ i. wrap (quot_z (m i) (to_z-of_z c.ranges.y i)))) ∙ if_no _ _ t

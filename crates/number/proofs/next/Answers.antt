@@ -1,7 +1,7 @@
 -- Below MAX the number after x is in range; from MAX on there is none.
 -- Assumes nothing.
 use Rattle.std.proofs.Common.{◌≡◌, true, false, pos, ap, ◌∙◌}
-use mathlib.Core.Option.{some}
+use Rattle.std.specs.Prelude.{Some}
 use lib.Signed.{lt_z}
 use Rattle.meaning.specs.Number.{MAX}
 use Rattle.meaning.specs.Number as point
@@ -22,7 +22,7 @@ pub returns-then-x-lt-MAX : goal.returns-then-x-lt-MAX
 unfolding point.next
 returns-then-x-lt-MAX c =
     let f = c.ranges.x in
-    ap some (add_is f (lit (pos 1) tt) (overflow_add-after c) ∙ add_one_is c.args.x) ∙ if_yes _ _ (below c)
+    ap Some (add_is f (lit (pos 1) tt) (overflow_add-after c) ∙ add_one_is c.args.x) ∙ if_yes _ _ (below c)
 
 pub returns-else-x-lt-MAX : goal.returns-else-x-lt-MAX
 unfolding point.next

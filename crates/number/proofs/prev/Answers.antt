@@ -1,7 +1,7 @@
 -- Above MIN the number before x is in range; at MIN there is none.
 -- Assumes nothing.
 use Rattle.std.proofs.Common.{◌≡◌, true, false, pos, ap, ◌∙◌}
-use mathlib.Core.Option.{some}
+use Rattle.std.specs.Prelude.{Some}
 use lib.Signed.{lt_z}
 use Rattle.meaning.specs.Number.{MIN}
 use Rattle.meaning.specs.Number as point
@@ -22,7 +22,7 @@ pub returns-then-x-gt-MIN : goal.returns-then-x-gt-MIN
 unfolding point.prev
 returns-then-x-gt-MIN c =
     let f = c.ranges.x in
-    ap some (sub_is f (lit (pos 1) tt) (overflow_sub-before c) ∙ sub_one_is c.args.x) ∙ if_yes _ _ (above c)
+    ap Some (sub_is f (lit (pos 1) tt) (overflow_sub-before c) ∙ sub_one_is c.args.x) ∙ if_yes _ _ (above c)
 
 pub returns-else-x-gt-MIN : goal.returns-else-x-gt-MIN
 unfolding point.prev

@@ -1,7 +1,7 @@
 -- By −1 every remainder is 0, MIN's too; by any other divisor but 0 the machine's remainder is the definition's.
 -- Assumes nothing.
 use Rattle.std.proofs.Common.{◌≡◌, true, false, pos, negsuc, ap, ◌∙◌, w64, SFits}
-use mathlib.Core.Option.{some}
+use Rattle.std.specs.Prelude.{Some}
 use Rattle.meaning.specs.Number.{eq_z, remainder}
 use Rattle.laws.proofs.Integers.{zarith, if_yes, if_no}
 use Rattle.laws.proofs.Machine.{lit, same, other, differ, quot_ok, rem_is}
@@ -23,7 +23,7 @@ unfolding remainder
 returns-then-y-eqminus1 c =
     let d = differ c.args.y (pos 0) c.if-y-eq0.false in
     let t : eq_z c.args.y (pos 0) ≡ false = omega zarith in
-    ap some (rem_minus c.args.x (same c.ranges.y minus c.if-y-eqminus1.true)) ∙ if_no _ _ t
+    ap Some (rem_minus c.args.x (same c.ranges.y minus c.if-y-eqminus1.true)) ∙ if_no _ _ t
 
 pub nonzero_rem-result : goal.nonzero_rem-result
 nonzero_rem-result c =
@@ -34,4 +34,4 @@ unfolding remainder
 returns-else-y-eqminus1 c =
     let d = differ c.args.y (pos 0) c.if-y-eq0.false in
     let t : eq_z c.args.y (pos 0) ≡ false = omega zarith in
-    ap some (rem_is c.ranges.x c.ranges.y) ∙ if_no _ _ t
+    ap Some (rem_is c.ranges.x c.ranges.y) ∙ if_no _ _ t

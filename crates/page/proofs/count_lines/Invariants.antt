@@ -8,7 +8,4 @@ use Rattle.page.proofs.count_lines.Given as goal
 
 abbrev pub invariant-loop-r : goal.invariant-loop-r
 invariant-loop-r l =
-    (l.r ≤ registers) × (l.n ≤ interval_limit * l.r) × (l.n + length (marked_rows l.marks l.sets l.r (registers - l.r)) ≡ length (marked_rows l.marks l.sets 0 registers))
-
-abbrev pub decreases-loop-r : goal.decreases-loop-r
-decreases-loop-r l = registers - l.r
+    (l.n ≤ interval_limit * l.r) × (l.n + length (marked_rows l.marks l.sets l.r (registers - l.r)) ≡ length (marked_rows l.marks l.sets 0 registers))

@@ -7,4 +7,4 @@ use Rattle.page.proofs.page.Goals as goal
 
 pub told-requires : goal.told-requires
 told-requires c =
-    told_by c.args.sheet.now (replicate sets_need (pos 0)) (replicate work_need (pos 0)) (length-replicate sets_need (pos 0)) (length-replicate work_need (pos 0)) c.check-a.ensures
+    told_by c.args.sheet.now (replicate sets_need (pos 0)) (replicate work_need (pos 0)) (length-replicate sets_need (pos 0)) (length-replicate work_need (pos 0)) c.check-answer.ensures

@@ -5,5 +5,4 @@ use Rattle.product_calls.proofs.rem.Goals as goal
 
 pub returns : goal.returns
 returns c =
-    let both = works2 point.rem c.args.left.now c.args.flag c.args.right.now c.args.out.now c.args.work.now c.joined.ensures.ended c.joined.ensures.arguments in
-    record { works2 = both.0; cased = both.1 }
+    record { works2 = works2 point.rem c.args.left.now c.args.flag c.args.right.now c.args.out.now c.args.work.now c.joined.ensures.ended c.joined.ensures.arguments }

@@ -1,23 +1,32 @@
--- The corners of narrow intervals are in window 0, so their spread is the one interval of them.
--- Assumes nothing.
-use borrow.Author.Rules.{rules}
-use mathlib.Core.Path.{ap, ◌∙◌}
-use lib.IntN.{◌*ℤ◌}
-use mir.Facts.{to_z-of_z}
+-- No product of narrow ends leaves the range, and the corners are in window 0, so their spread is the one interval of them. Assumes nothing.
+use Rattle.std.proofs.Common.{◌∙◌, ap, ◌*ℤ◌, w64, SFits, rules}
 use Rattle.meaning.specs.Number.{thousandth}
-use Rattle.meaning.specs.Interval.{span, least_corner, greatest_corner}
-use Rattle.laws.proofs.Machine.{ok, back}
+use Rattle.meaning.specs.Interval.{span}
+use Rattle.laws.proofs.Machine.{back}
 use Rattle.slices.proofs.Lent.{wrote_as}
-use Rattle.products.proofs.SmallProducts.{small_mul}
+use Rattle.wide.proofs.Extremes.{least_of_four, greatest_of_four}
+use Rattle.products.proofs.SmallProducts.{st_fits, sf_fits, et_fits, ef_fits, product_read, small_mul}
 use Rattle.products.proofs.mul_narrow.Goals as goal
 
 pub returns : goal.returns
 returns c =
-    let x = c.args in
-    let w = c.ranges in
-    let k = c.narrow_corners-c in
-    let l = back k.result.lo (search rules) ∙ k.ensures.0 ∙ (λ j. least_corner ◌*ℤ◌ (to_z-of_z w.s j) (to_z-of_z w.e j) (to_z-of_z w.t j) (to_z-of_z w.f j)) in
-    let g = back k.result.hi (search rules) ∙ k.ensures.1 ∙ (λ j. greatest_corner ◌*ℤ◌ (to_z-of_z w.s j) (to_z-of_z w.e j) (to_z-of_z w.t j) (to_z-of_z w.f j)) in
-    let a = to_z-of_z (ok c.milli.type_inv) ∙ c.milli.ensures ∙ ap thousandth l in
-    let b = to_z-of_z (ok c.milli-2.type_inv) ∙ c.milli-2.ensures ∙ ap thousandth g in
-    wrote_as ((λ j. span (a j) (b j)) ∙ small_mul x.s x.e x.t x.f c.requires.first_narrow c.requires.second_narrow) c.put_one.ensures
+    let s = c.args.left.lo in
+    let e = c.args.left.hi in
+    let t = c.args.right.lo in
+    let f = c.args.right.hi in
+    let n = c.requires.first_narrow in
+    let m = c.requires.second_narrow in
+    let S : SFits w64 s = search rules in
+    let E : SFits w64 e = search rules in
+    let T : SFits w64 t = search rules in
+    let F : SFits w64 f = search rules in
+    let p = product_read S T (st_fits s e t f n m) in
+    let q = product_read S F (sf_fits s e t f n m) in
+    let u = product_read E T (et_fits s e t f n m) in
+    let v = product_read E F (ef_fits s e t f n m) in
+    let x = c.extremes-least in
+    let l = back x.result.0 (search rules) ∙ x.ensures.least ∙ least_of_four ◌*ℤ◌ s e t f p q u v in
+    let g = back x.result.1 (search rules) ∙ x.ensures.greatest ∙ greatest_of_four ◌*ℤ◌ s e t f p q u v in
+    let a = back _ c.milli.type_inv ∙ c.milli.ensures ∙ ap thousandth l in
+    let b = back _ c.milli-2.type_inv ∙ c.milli-2.ensures ∙ ap thousandth g in
+    wrote_as ((λ j. span (a j) (b j)) ∙ small_mul s e t f n m) c.put_one.ensures

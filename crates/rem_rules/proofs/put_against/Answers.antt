@@ -1,29 +1,27 @@
--- The two tests are those of the definition.
-use mathlib.Core.Path.{◌≡◌, sym, ◌∙◌}
-use mathlib.Core.Bool.{true}
-use mir.Facts.{to_z-of_z}
-use Rattle.meaning.specs.Number.{MIN, within}
+-- The two tests are those of the definition. Assumes nothing.
+use Rattle.std.proofs.Common.{◌∙◌, to_z-of_z}
+use Rattle.meaning.specs.Number.{MIN}
 use Rattle.meaning.specs.Interval.{span}
-use Rattle.laws.proofs.Machine.{lt_z_is}
+use Rattle.laws.proofs.Integers.{zarith}
+use Rattle.laws.proofs.Machine.{num, same, other, lit}
 use Rattle.slices.proofs.Lent.{wrote_as}
-use Rattle.interval.proofs.Cuts.{told, within_is, MIN_fits}
-use Rattle.rem_rules.proofs.MagnitudeRules.{against_more, against_least, against_self}
+use Rattle.rem_rules.proofs.MagnitudeRules.{least_in, least_out, against_more, against_least, against_self}
 use Rattle.rem_rules.proofs.put_against.Goals as goal
-use Rattle.rem_rules.proofs.put_against.Goals.{Then-holds}
 
-module _ (c : Then-holds) where
-  held : within c.args.s MIN c.args.e ≡ true
-  held = sym (within_is c.ranges.s MIN_fits c.ranges.e) ∙ told c.holds.ensures c.if-holds.true
+pub returns-then-e-gt-MIN : goal.returns-then-e-gt-MIN
+returns-then-e-gt-MIN c =
+    let s = c.args.s in
+    let e = c.args.e in
+    wrote_as (against_more s e (least_in s e c.ranges.e (same c.ranges.s (lit MIN tt) c.if-s-eq-MIN.true)) (omega (zarith, num c.ranges.e))) c.put_one.ensures
 
-pub returns-then-less : goal.returns-then-less
-returns-then-less c =
-    wrote_as (against_more c.args.s c.args.e (held c.before.before.before.before.before) (sym (lt_z_is MIN_fits c.ranges.e) ∙ told c.less.ensures c.if-less.true)) c.put_one.ensures
+pub returns-else-e-gt-MIN : goal.returns-else-e-gt-MIN
+returns-else-e-gt-MIN c =
+    let s = c.args.s in
+    let e = c.args.e in
+    wrote_as (against_least s e (least_in s e c.ranges.e (same c.ranges.s (lit MIN tt) c.if-s-eq-MIN.true)) (omega (zarith, num c.ranges.e))) c.put_one-else-e-gt-MIN.ensures
 
-pub returns-else-less : goal.returns-else-less
-returns-else-less c =
-    wrote_as (against_least c.args.s c.args.e (held c.before.before.before.before.before) (sym (lt_z_is MIN_fits c.ranges.e) ∙ told c.less.ensures c.if-less.false)) c.put_one-else-less.ensures
-
-pub returns-else-holds : goal.returns-else-holds
-returns-else-holds c =
-    wrote_as ((λ i. span (to_z-of_z c.ranges.s i) (to_z-of_z c.ranges.e i)) ∙ against_self c.args.s c.args.e (sym (within_is c.ranges.s MIN_fits c.ranges.e) ∙ told c.holds.ensures c.if-holds.false))
-    c.put_one-else-holds.ensures
+pub returns-else-s-eq-MIN : goal.returns-else-s-eq-MIN
+returns-else-s-eq-MIN c =
+    let s = c.args.s in
+    let e = c.args.e in
+    wrote_as ((λ i. span (to_z-of_z c.ranges.s i) (to_z-of_z c.ranges.e i)) ∙ against_self s e (least_out s e c.ranges.s (other c.if-s-eq-MIN.false))) c.put_one-else-s-eq-MIN.ensures

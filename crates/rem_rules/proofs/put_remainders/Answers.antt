@@ -1,57 +1,37 @@
--- The magnitudes of the ends are those of the definition.
-use lib.IntN.{pos}
-use native.Mathlib.Omega.{arith}
-use mathlib.Core.Path.{◌≡◌, ◌∙◌}
-use Prim.Native.Nat.{min, max}
-use Rattle.meaning.specs.Interval.{least_magnitude, greatest_magnitude, rem_magnitudes, rule_f}
+-- The magnitudes of the ends are those of the definition. Assumes nothing.
+use Rattle.std.proofs.Common.{pos, w64, SFits, rules, arith}
+use Rattle.meaning.specs.Interval.{least_magnitude, greatest_magnitude}
 use Rattle.laws.proofs.Machine.{lit, lt_z_is}
 use Rattle.slices.proofs.Lent.{wrote_as, room_as}
-use Rattle.rem_rules.proofs.MagnitudeRules.{some_magnitude, magnitude_top, rule_f_lem, magnitudes_read}
+use Rattle.rem_rules.proofs.MagnitudeRules.{some_magnitude, magnitudes_read, magnitude_top, rule_f_lem}
 use Rattle.rem_rules.proofs.put_remainders.Goals as goal
-use Rattle.rem_rules.proofs.put_remainders.Goals.{After-high_of-2}
-
-module _ (c : After-high_of-2) where
-  low-left : c.low_of.result
-      ≡ least_magnitude c.args.s c.args.e
-  low-left =
-      magnitudes_read min c.low_of.ensures c.magnitude-i.ensures c.magnitude-j.ensures
-      c.ranges.s c.ranges.e
-
-  high-left : c.high_of.result
-      ≡ greatest_magnitude c.args.s c.args.e
-  high-left =
-      magnitudes_read max c.high_of.ensures c.magnitude-i.ensures c.magnitude-j.ensures
-      c.ranges.s c.ranges.e
-
-  low-right : c.low_of-2.result
-      ≡ least_magnitude c.args.t c.args.f
-  low-right =
-      magnitudes_read min c.low_of-2.ensures c.magnitude-k.ensures c.magnitude-l.ensures
-      c.ranges.t c.ranges.f
-
-  high-right : c.high_of-2.result
-      ≡ greatest_magnitude c.args.t c.args.f
-  high-right =
-      magnitudes_read max c.high_of-2.ensures c.magnitude-k.ensures c.magnitude-l.ensures
-      c.ranges.t c.ranges.f
-
-  whole : rem_magnitudes c.less-negated.result c.low_of.result c.high_of.result
-      c.low_of-2.result c.high_of-2.result
-      ≡ rule_f c.args.s c.args.e
-      c.args.t c.args.f
-  whole =
-      rule_f_lem c.args.s c.args.e c.args.t c.args.f (c.less-negated.ensures ∙ lt_z_is c.ranges.s (lit (pos 0) tt))
-      low-left high-left low-right high-right
 
 pub put_magnitudes-requires : goal.put_magnitudes-requires
 put_magnitudes-requires c =
-    let m = some_magnitude c.requires.second_ordered c.requires.no_zero in record {
-      first_ordered = omega (arith, low-left c, high-left c);
-      second_positive = omega (arith, low-right c, m);
-      second_ordered = omega (arith, low-right c, high-right c, m);
-      second_fits = omega (arith, high-right c, magnitude_top c.args.t c.args.f c.ranges.t c.ranges.f);
-      room = room_as (whole c) c.requires.room;
+    let s = c.args.s in
+    let e = c.args.e in
+    let r = c.args.right.numbers in
+    let T : SFits w64 r.lo = search rules in
+    let F : SFits w64 r.hi = search rules in
+    let l = magnitudes_read least_magnitude c.ranges.s c.ranges.e c.magnitudes_of-l.ensures.0 in
+    let g = magnitudes_read greatest_magnitude c.ranges.s c.ranges.e c.magnitudes_of-l.ensures.1 in
+    let m = magnitudes_read least_magnitude T F c.magnitudes_of-r.ensures.0 in
+    let h = magnitudes_read greatest_magnitude T F c.magnitudes_of-r.ensures.1 in
+    let some = some_magnitude r.ordered c.args.right.no_zero in record {
+      second_positive = omega (arith, m, some);
+      second_fits = omega (arith, h, magnitude_top r.lo r.hi T F);
+      room = room_as (rule_f_lem s e r.lo r.hi (lt_z_is c.ranges.s (lit (pos 0) tt)) l g m h) c.requires;
     }
 
 pub returns : goal.returns
-returns c = wrote_as (whole c.before.before) c.put_magnitudes.ensures
+returns c =
+    let s = c.args.s in
+    let e = c.args.e in
+    let r = c.args.right.numbers in
+    let T : SFits w64 r.lo = search rules in
+    let F : SFits w64 r.hi = search rules in
+    let l = magnitudes_read least_magnitude c.ranges.s c.ranges.e c.magnitudes_of-l.ensures.0 in
+    let g = magnitudes_read greatest_magnitude c.ranges.s c.ranges.e c.magnitudes_of-l.ensures.1 in
+    let m = magnitudes_read least_magnitude T F c.magnitudes_of-r.ensures.0 in
+    let h = magnitudes_read greatest_magnitude T F c.magnitudes_of-r.ensures.1 in
+    wrote_as (rule_f_lem s e r.lo r.hi (lt_z_is c.ranges.s (lit (pos 0) tt)) l g m h) c.put_magnitudes.ensures

@@ -1,30 +1,27 @@
--- 1 − d is the negative of d − 1, and d is at least 1.
-use lib.IntN.{pos, neg_ℤ, nat_abs}
-use native.Mathlib.Omega.{arith}
-use mathlib.Core.Path.{◌≡◌, ap, ap₂, ◌∙◌}
-use Prim.Native.Nat.{ℕ, ◌-◌, max}
-use mir.Facts.{to_z-of_z}
+-- 1 − d is the negative of d − 1, and d is at least 1. Assumes nothing.
+use Rattle.std.proofs.Common.{◌≡◌, ◌∙◌, ap, ℕ, ◌-◌, ◌<◌, ◌^◌, pos, neg_ℤ, w64, SFits, rules, arith}
 use Rattle.meaning.specs.Interval.{span, greatest_magnitude}
-use Rattle.laws.proofs.Machine.{back}
+use Rattle.laws.proofs.Machine.{fit, neg_ok, neg_is}
 use Rattle.slices.proofs.Lent.{wrote_as}
-use Rattle.rem_rules.proofs.MagnitudeRules.{some_magnitude, magnitude_top, under_is}
+use Rattle.rem_rules.proofs.MagnitudeRules.{some_magnitude, magnitudes_read, magnitude_top, under_is}
 use Rattle.rem_rules.proofs.put_under.Goals as goal
-use Rattle.rem_rules.proofs.put_under.Goals.{After-high_of-d}
-
-module _ (c : After-high_of-d) where
-  high_is : c.high_of-d.result ≡ greatest_magnitude c.args.t c.args.f
-  high_is =
-      c.high_of-d.ensures ∙ ap₂ max (c.magnitude.ensures ∙ ap nat_abs (to_z-of_z c.ranges.t)) (c.magnitude-2.ensures ∙ ap nat_abs (to_z-of_z c.ranges.f))
 
 pub overflow_sub-d : goal.overflow_sub-d
-overflow_sub-d c = omega (arith, high_is c, some_magnitude c.requires.second_ordered c.requires.no_zero)
-
-pub minus-a-requires : goal.minus-a-requires
-minus-a-requires c = omega (arith, high_is c, magnitude_top c.args.t c.args.f c.ranges.t c.ranges.f)
+overflow_sub-d c =
+    let r = c.args.right.numbers in
+    let T : SFits w64 r.lo = search rules in
+    let F : SFits w64 r.hi = search rules in
+    omega (arith, magnitudes_read greatest_magnitude T F c.magnitudes_of-d.ensures.1, some_magnitude r.ordered c.args.right.no_zero)
 
 pub returns : goal.returns
 returns c =
-    let A =
-    back c.minus-a.result c.minus-a.type_inv ∙ c.minus-a.ensures ∙ ap (λ (n : ℕ). neg_ℤ (pos (n - 1))) (high_is c.before.before.before.before) ∙ under_is (greatest_magnitude c.args.t
-    c.args.f) (some_magnitude c.requires.second_ordered c.requires.no_zero).2 in
-    wrote_as (λ i. span (A i) (pos 0)) c.put_one.ensures
+    let r = c.args.right.numbers in
+    let T : SFits w64 r.lo = search rules in
+    let F : SFits w64 r.hi = search rules in
+    let e = magnitudes_read greatest_magnitude T F c.magnitudes_of-d.ensures.1 in
+    let some = some_magnitude r.ordered c.args.right.no_zero in
+    let d : c.magnitudes_of-d.result.greatest - 1 < 2 ^ 63 = omega (arith, e, some, magnitude_top r.lo r.hi T F) in
+    let D = fit (pos (c.magnitudes_of-d.result.greatest - 1)) d in
+    wrote_as
+    (ap (λ a. span a (pos 0)) (neg_is D (neg_ok D (omega arith)) ∙ ap (λ (n : ℕ). neg_ℤ (pos (n - 1))) e ∙ under_is (greatest_magnitude r.lo r.hi) some.2))
+    c.put_one.ensures

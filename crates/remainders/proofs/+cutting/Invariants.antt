@@ -2,8 +2,8 @@
 use Rattle.std.proofs.Common.{◌+◌, ◌*◌}
 use Rattle.remainders.proofs.+cutting.Given as goal
 
-abbrev pub decreases-rem_if : goal.decreases-rem_if
-decreases-rem_if l = 3 * l.n + 1
+abbrev pub decreases-rem_of : goal.decreases-rem_of
+decreases-rem_of l = 3 * l.n + 1
 
 abbrev pub decreases-cut_left : goal.decreases-cut_left
 decreases-cut_left l = 3 * l.n + 2

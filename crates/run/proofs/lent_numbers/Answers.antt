@@ -16,37 +16,25 @@ use borrow.Author.Rules.{rules}
 use Rattle.run.proofs.lent_numbers.Goals as goal
 
 pub loop-i-init : goal.loop-i-init
-loop-i-init c = (omega arith, refl, sym (over_nil _), tt)
-
-pub offset_bounds-lent-i : goal.offset_bounds-lent-i
-offset_bounds-lent-i c = omega arith
-
-pub bounds-lent-i : goal.bounds-lent-i
-bounds-lent-i c = omega (arith, c.requires)
-
-pub offset_bounds-numbers-i : goal.offset_bounds-numbers-i
-offset_bounds-numbers-i c = omega arith
+loop-i-init c = (refl, sym (over_nil _), tt)
 
 pub loop-i-preserved : goal.loop-i-preserved
 loop-i-preserved c =
     let l = c.args.lent.now in
     let i = c.loop-i.i in
-    let h : suc i ≤ length l = omega (arith, c.requires) in
+    let h : suc i ≤ length l = omega arith in
     let f = fit (get_or l i (pos 0)) (search rules) in
     let x = to_z-of_z f in
-    let n = all_next InRange l i (pos 0) h c.loop-i.invariant.3 (fits_range f) in (
-      omega arith,
-      simp length-set c.loop-i.invariant.1,
-      rw (x, c.loop-i.invariant.2) (over_take _ l i (pos 0) (omega arith) h),
+    let n = all_next InRange l i (pos 0) h c.loop-i.invariant.2 (fits_range f) in (
+      simp length-set c.loop-i.invariant.0,
+      rw (x, c.loop-i.invariant.1) (over_take _ l i (pos 0) (omega arith) h),
       subst (λ (k : ℕ). All InRange (take k l)) (sym (add-one i)) n,
     )
 
 pub returns : goal.returns
 returns c =
     let l = c.args.lent.now in
-    let e : c.loop-i.i ≡ 16 = omega (arith, c.loop-i.invariant.0) in
-    let p : c.loop-i.numbers ≡ over (take 16 l) _ = rw e at c.loop-i.invariant.2 in
-    let q : All InRange (take 16 l) = rw e at c.loop-i.invariant.3 in record {
-      value = p ∙ copied_is l _ refl c.requires;
-      in_range = subst (All InRange) (sym (start_is l)) q;
-    }
+    let e : c.loop-i.i ≡ 16 = omega arith in
+    let p : c.loop-i.numbers ≡ over (take 16 l) _ = rw e at c.loop-i.invariant.1 in
+    let q : All InRange (take 16 l) = rw e at c.loop-i.invariant.2 in
+    (c.if-lent-lt-REGISTERS.false, p ∙ copied_is l _ refl c.if-lent-lt-REGISTERS.false, subst (All InRange) (sym (start_is l)) q)

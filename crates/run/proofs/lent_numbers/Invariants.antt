@@ -1,12 +1,8 @@
 use mathlib.Core.Path.{◌≡◌}
-use Prim.Native.Nat.{◌≤◌, ◌-◌}
 use lib.ListN.{length, take}
 use Rattle.meaning.specs.Lists.{over, All}
 use Rattle.meaning.specs.Number.{InRange}
 use Rattle.run.proofs.lent_numbers.Given as goal
 
 abbrev pub invariant-loop-i : goal.invariant-loop-i
-invariant-loop-i l = (l.i ≤ 16) × (length l.numbers ≡ 16) × (l.numbers ≡ over (take l.i l.lent) l.initial.numbers) × All InRange (take l.i l.lent)
-
-abbrev pub decreases-loop-i : goal.decreases-loop-i
-decreases-loop-i l = 16 - l.i
+invariant-loop-i l = (length l.numbers ≡ 16) × (l.numbers ≡ over (take l.i l.lent) l.initial.numbers) × All InRange (take l.i l.lent)

@@ -1,12 +1,11 @@
-use mathlib.Core.Path.{◌≡◌}
-use Prim.Native.Nat.{◌-◌}
-use lib.ListN.{length, take}
-use Rattle.meaning.specs.Sheet.{registers}
+use Prim.Native.Nat.{ℕ, ◌+◌, ◌≤◌}
+use lib.ListN.{length}
+use Rattle.meaning.specs.Text.{lines}
+use Rattle.sheet.specs.Judging.{IsSheet}
 use Rattle.run.proofs.Steps.{Running}
 use Rattle.run.proofs.work.Given as goal
 
-abbrev pub invariant-loop-at : goal.invariant-loop-at
-invariant-loop-at l = Running l.text l.initial.lent l.state l.count l.n l.at × (l.lent ≡ l.initial.lent) × (l.given ≡ take registers l.initial.lent)
-
-abbrev pub decreases-loop-at : goal.decreases-loop-at
-decreases-loop-at l = length l.text - l.at
+abbrev pub invariant-loop-line : goal.invariant-loop-line
+invariant-loop-line l =
+    (l.count + length (lines l.line-iterator.rest.now) ≤ length l.text)
+    × ((n : ℕ) (sheet : IsSheet l.text n) → Running l.lent l.initial.state l.state sheet.lines l.count (lines l.line-iterator.rest.now))

@@ -1,31 +1,30 @@
 -- A refused argument, too little work, or the core's answer handed out.
-use mathlib.Core.Path.{sym, subst, ◌∙◌}
+use Rattle.std.proofs.Common.{sym, subst, arith}
+use Rattle.std.proofs.lemmas.Result.{err_from_is_err_and}
 use Rattle.sets.specs.Sets.{Argument}
-use native.Mathlib.Omega.{arith}
+use Rattle.refusals.proofs.Rows.{number_not_zero}
 use Rattle.cores.proofs.Operations.{factor_le}
 use Rattle.set_calls.proofs.Calls.{call_refused, call_short, call_ended, need_as, need_whole, cored_whole, enough, end_asks}
 use Rattle.set_calls.proofs.joined.Goals as goal
 
-pub returns-then-k-ne0 : goal.returns-then-k-ne0
-returns-then-k-ne0 c = record {
-  ended = call_refused _ _ _ _ _ _ _ c.refusal2-k.ensures.refused c.if-k-ne0.true;
-  arguments = λ e. c.refusal2-k.ensures.arguments (c.refusal2-k.ensures.refused ∙ e);
-}
+pub returns-in_err-accept_both-clause-ended : goal.returns-in_err-accept_both-clause-ended
+returns-in_err-accept_both-clause-ended c =
+    let p = err_from_is_err_and c.from_residual.result c.from_residual.ensures.1 in
+    rw (p.1, p.2) (call_refused _ _ _ _ _ _ _ c.in_err-accept_both.ensures.refused (number_not_zero _))
 
 pub need-needed-requires : goal.need-needed-requires
 need-needed-requires c =
-    let a = c.refusal2-k.ensures.arguments c.if-k-ne0.false in
+    let a = c.in_ok-accept_both.ensures.arguments in
     (omega (arith, c.factor.ensures, factor_le c.args.op), a.0.few, a.1.few)
 
-pub returns-then-work-needed : goal.returns-then-work-needed
-returns-then-work-needed c = record {
-  ended = call_short _ _ _ _ _ _ (sym c.refusal2-k.ensures.refused ∙ c.if-k-ne0.false) _ (need_as _ _ c.factor.ensures c.need-needed.ensures) c.if-work-needed.true;
-  arguments = λ _. c.refusal2-k.ensures.arguments c.if-k-ne0.false;
-}
+pub returns-then-work-needed-clause-ended : goal.returns-then-work-needed-clause-ended
+returns-then-work-needed-clause-ended c =
+    let e = need_as _ _ c.factor.ensures c.need-needed.ensures in
+    call_short _ _ _ _ _ _ (sym c.in_ok-accept_both.ensures.refused) (omega (arith, e, c.if-work-needed.true))
 
-pub answer-c-requires : goal.answer-c-requires
-answer-c-requires c =
-    let a = c.refusal2-k.ensures.arguments c.if-k-ne0.false in
+pub answer-core-requires : goal.answer-core-requires
+answer-core-requires c =
+    let a = c.in_ok-accept_both.ensures.arguments in
     let l = sym c.whole.ensures in
     let r = sym c.whole-2.ensures in
     let n = enough (need_as _ _ c.factor.ensures c.need-needed.ensures) c.if-work-needed.false in
@@ -33,13 +32,11 @@ answer-c-requires c =
 
 pub finish-requires : goal.finish-requires
 finish-requires c =
-    let w = cored_whole c.args.op c.args.flag _ _ _ c.whole.ensures c.whole-2.ensures c.answer-c.ensures in
-    end_asks (need_as _ _ c.factor.ensures c.need-needed.ensures) w.room c.if-work-needed.false c.answer-c.auto.work
+    let w = cored_whole c.args.op c.args.flag _ _ _ c.whole.ensures c.whole-2.ensures c.answer-core.ensures in
+    end_asks (need_as _ _ c.factor.ensures c.need-needed.ensures) w.room c.if-work-needed.false c.answer-core.auto.work
 
-pub returns : goal.returns
-returns c =
-    let w = cored_whole c.args.op c.args.flag _ _ _ c.whole.ensures c.whole-2.ensures c.answer-c.ensures in record {
-      ended = call_ended _ _ _ _ _ _ (sym c.refusal2-k.ensures.refused ∙ c.if-k-ne0.false) _ (need_as _ _ c.factor.ensures c.need-needed.ensures) c.if-work-needed.false w
-          c.finish.ensures.0 c.finish.ensures.1 c.finish.ensures.2;
-      arguments = λ _. c.refusal2-k.ensures.arguments c.if-k-ne0.false;
-    }
+pub returns-clause-ended : goal.returns-clause-ended
+returns-clause-ended c =
+    let w = cored_whole c.args.op c.args.flag _ _ _ c.whole.ensures c.whole-2.ensures c.answer-core.ensures in
+    call_ended _ _ _ _ _ _ (sym c.in_ok-accept_both.ensures.refused) _ (need_as _ _ c.factor.ensures c.need-needed.ensures) c.if-work-needed.false w
+    c.finish.ensures.0 c.finish.ensures.1 c.finish.ensures.2

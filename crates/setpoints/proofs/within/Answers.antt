@@ -1,29 +1,21 @@
 -- A refused argument, or the members within the distance handed out. Assumes nothing.
-use mathlib.Core.Path.{sym, ◌∙◌}
-use mathlib.Core.Bool.{false}
-use native.Mathlib.Omega.{arith}
+use Rattle.std.proofs.Common.{sym, ◌∙◌}
+use Rattle.std.proofs.lemmas.Result.{err_from_is_err_and}
 use mir.Facts.{to_z-of_z}
-use Rattle.meaning.specs.NumberIntervals.{intervals}
+use Rattle.refusals.proofs.Rows.{number_not_zero}
 use Rattle.set_calls.proofs.Calls.{handed_refused, call_handed}
-use Rattle.meaning.specs.Setpoints.{near, setpoint_refusal}
 use Rattle.setpoints.proofs.Giving.{reaches}
 use Rattle.setpoints.proofs.within.Goals as goal
 
-pub returns-then-k-ne0 : goal.returns-then-k-ne0
-returns-then-k-ne0 c =
-    let h = handed_refused (setpoint_refusal c.args.set.now) (near (intervals c.args.set.now) c.args.x c.args.distance) false c.args.out.now 0 _ c.refusal_of-k.ensures.refused c.if-k-ne0.true in
-    let both = reaches c.args.set.now c.args.x c.args.distance c.args.out.now h (λ z. absurd (c.if-k-ne0.true (c.refusal_of-k.ensures.refused ∙ z))) in
-    record { reaches = both.0; cased = both.1 }
-
-pub near_into-n-requires : goal.near_into-n-requires
-near_into-n-requires c = ((c.refusal_of-k.ensures.argument c.if-k-ne0.false).0, omega arith)
+pub returns-in_err-accept_filled : goal.returns-in_err-accept_filled
+returns-in_err-accept_filled c =
+    let p = err_from_is_err_and c.from_residual.result c.from_residual.ensures.1 in
+    let e = c.in_err-accept_filled.ensures.refused in
+    let h = number_not_zero _ in
+    rw (p.1, p.2) record { reaches = reaches _ _ _ _ (handed_refused _ _ _ _ _ _ e h) (λ z. absurd (h (e ∙ z))) }
 
 pub returns : goal.returns
 returns c =
-    let z = c.if-k-ne0.false in
-    let n = c.near_into-n.ensures in
-    let e = to_z-of_z c.ranges.x in
-    let w = rw e at n in
-    let h = call_handed (setpoint_refusal c.args.set.now) (near (intervals c.args.set.now) c.args.x c.args.distance) false c.args.out.now w (sym c.refusal_of-k.ensures.refused ∙ z) c.hand_out.ensures.0 c.hand_out.ensures.1 in
-    let both = reaches c.args.set.now c.args.x c.args.distance c.args.out.now h (λ _. (c.refusal_of-k.ensures.argument z).0) in
-    record { reaches = both.0; cased = both.1 }
+    let a = c.in_ok-accept_filled.ensures in
+    let w = rw (to_z-of_z c.ranges.x) at c.near_into-count.ensures in
+    record { reaches = reaches _ _ _ _ (call_handed _ _ _ _ w (sym a.refused) c.hand_out.ensures.0 c.hand_out.ensures.1) (λ _. a.argument.0) }

@@ -12,14 +12,14 @@ use Rattle.sorting.proofs.Steps.{end_at}
 use Rattle.sets.proofs.Reading.{after_more}
 use Rattle.sets.proofs.fine_at.Goals as goal
 
-pub returns-then-le : goal.returns-then-le
-returns-then-le c =
+pub returns-then-a-b : goal.returns-then-a-b
+returns-then-a-b c =
     let s = c.args.s.now in
     let i = c.args.i in
     let p = c.a-1.given in
     let q = c.b-1.given in
     let r = c.c-1.given in
-    let t : le_z (end_at s i) (end_at s (i + 1)) ≡ true = rw (back (end_at s i) p, back (end_at s (i + 1)) q) at (sym c.le.ensures ∙ c.if-le.true) in
+    let t : le_z (end_at s i) (end_at s (i + 1)) ≡ true = rw (back (end_at s i) p, back (end_at s (i + 1)) q) at c.if-a-b.true in
     let u : starts_after (end_at s (i + 1)) (drop (i + 2) s) ≡ apart (end_at s (i + 1)) (end_at s (i + 2)) = after_more s (i + 2) (end_at s (i + 1)) (omega (arith, c.requires)) in
     let v : c.apart.result ≡ apart (end_at s (i + 1)) (end_at s (i + 2)) = c.apart.ensures ∙ (λ j. apart (back (end_at s (i + 1)) q j) (back (end_at s (i + 2)) r j)) in record {
       value = simp (t, u, v);
@@ -27,13 +27,13 @@ returns-then-le c =
       end_in_range = fits_range (fit (end_at s (i + 1)) q);
     }
 
-pub returns-else-le : goal.returns-else-le
-returns-else-le c =
+pub returns-else-a-b : goal.returns-else-a-b
+returns-else-a-b c =
     let s = c.args.s.now in
     let i = c.args.i in
     let p = c.a-1.given in
     let q = c.b-1.given in
-    let t : le_z (end_at s i) (end_at s (i + 1)) ≡ false = rw (back (end_at s i) p, back (end_at s (i + 1)) q) at (sym c.le.ensures ∙ c.if-le.false) in record {
+    let t : le_z (end_at s i) (end_at s (i + 1)) ≡ false = rw (back (end_at s i) p, back (end_at s (i + 1)) q) at c.if-a-b.false in record {
       value = sym (and_left _ t);
       start_in_range = fits_range (fit (end_at s i) p);
       end_in_range = fits_range (fit (end_at s (i + 1)) q);

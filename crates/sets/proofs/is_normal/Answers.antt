@@ -3,8 +3,10 @@ use mathlib.Core.Path.{◌≡◌, refl, sym, ◌∙◌}
 use Prim.Native.Nat.{◌+◌, ◌≤◌}
 use native.Mathlib.Omega.{arith}
 use lib.ListN.{length}
+use lib.Signed.{le_z}
+use Rattle.meaning.specs.NumberIntervals.{normal}
 use Rattle.laws.proofs.Integers.{never}
-use Rattle.laws.proofs.Machine.{back, fit, fits_range}
+use Rattle.laws.proofs.Machine.{back, fit, fits_range, rd}
 use Rattle.sorting.proofs.Steps.{end_at}
 use Rattle.laws.proofs.Flat.{ends_normal}
 use Rattle.sets.proofs.Reading.{normal_end, normal_last, normal_one, normal_not, normal_so, range_two, range_all}
@@ -52,8 +54,7 @@ returns c =
     let h : i + 2 ≡ length s = omega arith in
     let p = c.a-1.given in
     let q = c.b-1.given in
-    let t = rw (back (end_at s i) p, back (end_at s (i + 1)) q) at c.le.ensures in
-    let u = t ∙ sym (c.loop-i.invariant.2 ∙ normal_one s i h) in record {
+    let u : le_z (rd (end_at s i)) (rd (end_at s (i + 1))) ≡ normal s = rw (back (end_at s i) p, back (end_at s (i + 1)) q) (sym (c.loop-i.invariant.2 ∙ normal_one s i h)) in record {
       value = u;
       normal = λ e. ends_normal s (sym u ∙ e) (range_all s (i + 2) (omega arith) (range_two s i (omega arith) c.loop-i.invariant.3 (fits_range (fit (end_at s i) p)) (fits_range (fit (end_at s (i + 1)) q))));
     }

@@ -1,11 +1,10 @@
-use mathlib.Core.Path.{◌≡◌}
-use Prim.Native.Nat.{◌+◌, ◌-◌}
+use Prim.Native.Nat.{◌+◌}
 use lib.ListN.{length}
-use Rattle.sets.proofs.Cross.{Crossing}
+use Rattle.sets.proofs.Cross.{Walking}
 use Rattle.sets.proofs.meet.Given as goal
 
-abbrev pub invariant-loop-i : goal.invariant-loop-i
-invariant-loop-i l = (l.n ≡ length l.left) × (l.m ≡ length l.right) × Crossing l.left l.right l.initial.work l.work l.i l.j l.at
+abbrev pub invariant-loop-lefts : goal.invariant-loop-lefts
+invariant-loop-lefts l = Walking l.left l.right l.initial.work l.work l.lefts l.rights l.at
 
-abbrev pub decreases-loop-i : goal.decreases-loop-i
-decreases-loop-i l = (l.n - l.i) + (l.m - l.j)
+abbrev pub decreases-loop-lefts : goal.decreases-loop-lefts
+decreases-loop-lefts l = length l.lefts + length l.rights

@@ -1,10 +1,6 @@
-use Prim.Native.Nat.{◌-◌}
-use lib.ListN.{length}
+use Rattle.meaning.specs.Text.{lines}
 use Rattle.sheet.proofs.Judging.{Going}
 use Rattle.sheet.proofs.judge_lines.Given as goal
 
-abbrev pub invariant-loop-at : goal.invariant-loop-at
-invariant-loop-at l = Going l.text l.taken l.other l.n l.at
-
-abbrev pub decreases-loop-at : goal.decreases-loop-at
-decreases-loop-at l = length l.text - l.at
+abbrev pub invariant-loop-line : goal.invariant-loop-line
+invariant-loop-line l = Going l.text l.seen l.count (lines l.line-iterator.rest.now)

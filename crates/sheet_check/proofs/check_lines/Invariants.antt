@@ -1,11 +1,7 @@
-use mathlib.Core.Path.{◌≡◌}
-use Prim.Native.Nat.{◌-◌, ◌≤◌}
-use lib.ListN.{length}
-use Rattle.sheet_check.proofs.Walking.{Looping}
+-- What is left of the text is worked from the registers' sets.
+use Rattle.meaning.specs.Text.{lines}
+use Rattle.sheet_check.proofs.Walking.{Going}
 use Rattle.sheet_check.proofs.check_lines.Given as goal
 
-abbrev pub invariant-loop-at : goal.invariant-loop-at
-invariant-loop-at l = (8192 ≤ length l.work) × (length l.work ≡ length l.initial.work) × (length l.regs ≡ length l.initial.regs) × Looping l.text l.count l.regs l.n l.at
-
-abbrev pub decreases-loop-at : goal.decreases-loop-at
-decreases-loop-at l = length l.text - l.at
+abbrev pub invariant-loop-n : goal.invariant-loop-n
+invariant-loop-n l = Going l.text l.registers l.n-iterator.count (lines l.n-iterator.iter.rest.now)

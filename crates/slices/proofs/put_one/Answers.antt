@@ -1,11 +1,9 @@
--- Two stores at the front are the list of both ends over what stood there.
-use mathlib.Core.Path.{refl}
-use mathlib.Core.List.{[], ◌∷◌}
-use mir.Facts.{to_z-of_z}
+-- The numbers written are the ends. Assumes nothing.
+use Rattle.std.proofs.Common.{[], ◌∷◌, ◌∙◌, to_z-of_z, rules}
+use Rattle.meaning.specs.Lists.{over}
 use Rattle.meaning.specs.NumberIntervals.{flat}
-use Rattle.laws.proofs.Over.{over_sets}
 use Rattle.slices.proofs.put_one.Goals as goal
 
 pub returns : goal.returns
 unfolding flat
-returns c = record { count = refl; left = rw (to_z-of_z c.ranges.a, to_z-of_z c.ranges.b) (over_sets (_ ∷ _ ∷ []) _ c.requires); room = c.requires }
+returns c = record { count = c.put.ensures.count; left = c.put.ensures.after ∙ (λ i. over (to_z-of_z c.ranges.a i ∷ to_z-of_z c.ranges.b i ∷ []) c.args.out.now); room = search (rules, c.put.ensures.count) }

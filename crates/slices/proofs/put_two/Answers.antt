@@ -1,21 +1,9 @@
--- Four stores at the front are the list of the four ends over what stood there.
-use mathlib.Core.Path.{refl}
-use mathlib.Core.List.{[], ◌∷◌}
-use native.Mathlib.Omega.{arith}
-use lib.ListN.{length-set}
-use mir.Facts.{to_z-of_z}
+-- The numbers written are the ends. Assumes nothing.
+use Rattle.std.proofs.Common.{[], ◌∷◌, ◌∙◌, to_z-of_z, rules}
+use Rattle.meaning.specs.Lists.{over}
 use Rattle.meaning.specs.NumberIntervals.{flat}
-use Rattle.laws.proofs.Over.{over_sets}
 use Rattle.slices.proofs.put_two.Goals as goal
-
-pub bounds-out-1 : goal.bounds-out-1
-bounds-out-1 c = simp length-set (omega arith)
-
-pub bounds-out-2 : goal.bounds-out-2
-bounds-out-2 c = simp length-set (omega arith)
 
 pub returns : goal.returns
 unfolding flat
-returns c =
-    let f = c.ranges in
-    record { count = refl; left = rw (to_z-of_z f.a, to_z-of_z f.b, to_z-of_z f.c, to_z-of_z f.d) (over_sets (_ ∷ _ ∷ _ ∷ _ ∷ []) _ c.requires); room = c.requires }
+returns c = record { count = c.put.ensures.count; left = c.put.ensures.after ∙ (λ i. over (to_z-of_z c.ranges.a i ∷ to_z-of_z c.ranges.b i ∷ to_z-of_z c.ranges.c i ∷ to_z-of_z c.ranges.d i ∷ []) c.args.out.now); room = search (rules, c.put.ensures.count) }

@@ -8,5 +8,4 @@ use Rattle.sum_calls.proofs.abs.Goals as goal
 
 pub returns : goal.returns
 returns c =
-    let both = works1 point.abs c.args.left.now c.args.flag c.args.out.now c.args.work.now (alone_ended abs_alone c.args.left.now c.args.flag c.args.out.now c.args.work.now c.joined.ensures.ended) (λ e. (c.joined.ensures.arguments (alone_refusal c.args.left.now ∙ e)).0) in
-    record { works1 = both.0; cased = both.1 }
+    record { works1 = works1 point.abs c.args.left.now c.args.flag c.args.out.now c.args.work.now (alone_ended abs_alone c.args.left.now c.args.flag c.args.out.now c.args.work.now c.joined.ensures.ended) (λ e. (c.joined.ensures.arguments (alone_refusal c.args.left.now ∙ e)).0) }

@@ -1,9 +1,20 @@
--- What all calls whose answer is 0, 1000 or both do, for its own operation.
+-- A refused argument, or what the operation may give, handed out.
+use Rattle.std.proofs.Common.{refl, ap}
+use Rattle.std.proofs.lemmas.Result.{err_from_is_err_and}
 use Rattle.meaning.specs.Number as point
-use Rattle.set_calls.proofs.Right.{gives2}
+use Rattle.meaning.specs.NumberIntervals.{of_bools, set2, flag2}
+use Rattle.meaning.specs.SetCalls.{factor2}
+use Rattle.refusals.proofs.Rows.{number_not_zero}
+use Rattle.set_calls.proofs.Right.{gives2_refused, gives2_bools}
 use Rattle.truth_calls.proofs.int_lt.Goals as goal
 
+pub returns-in_err-accept_both : goal.returns-in_err-accept_both
+returns-in_err-accept_both c =
+    let p = err_from_is_err_and c.from_residual.result c.from_residual.ensures.1 in
+    rw (p.1, p.2) record { gives2 = gives2_refused _ _ _ c.in_err-accept_both.ensures.refused (number_not_zero _) point.lt }
+
 pub returns : goal.returns
+unfolding set2 flag2 factor2
 returns c =
-    let both = gives2 point.lt c.args.left.now c.args.right.now c.args.out.now c.related.ensures.answered c.related.ensures.arguments in
-    record { gives2 = both.0; cased = both.1 }
+    let a = c.in_ok-accept_both.ensures in
+    record { gives2 = gives2_bools point.lt _ _ _ _ (ap of_bools (c.lt.ensures)) refl refl a.refused a.arguments c.hand_bools.ensures }

@@ -1,12 +1,8 @@
--- It is one line of a word and a number. Assumes nothing.
-use Rattle.decimal.proofs.Chain.{written_as, room_as}
-use Rattle.wording.proofs.TextLaws.{pass_line_lem}
+-- The word, the number and LF. Assumes nothing.
+use Rattle.meaning.specs.Listing.{pass_line}
+use Rattle.decimal.proofs.Chain.{appends_next}
 use Rattle.wording.proofs.pass_line.Goals as goal
 
-pub word_line-requires : goal.word_line-requires
-word_line-requires c =
-    room_as _ (pass_line_lem c.args.n) c.requires
-
 pub returns : goal.returns
-returns c =
-    written_as (pass_line_lem c.args.n) c.word_line.ensures
+unfolding pass_line
+returns c = appends_next (appends_next c.push.ensures c.push_number.ensures) c.push-2.ensures

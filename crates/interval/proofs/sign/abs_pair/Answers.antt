@@ -1,51 +1,43 @@
--- The branches are the cases of the definition: MIN is in [s,e] just when it is its start.
--- Assumes nothing.
-use borrow.Author.Rules.{rules}
-use mathlib.Core.Path.{◌∙◌, ap}
-use mathlib.Core.List.{List, ◌++◌}
-use lib.IntN.{neg_ℤ}
-use lib.Signed.{◌<ℤ◌}
-use mir.Facts.{to_z-of_z}
-use Rattle.meaning.specs.Number.{MIN, MAX}
+-- The branches are the cases of the definition: MIN is in an interval just when it is its start. Assumes nothing.
+use Rattle.std.proofs.Common.{◌∙◌, ◌++◌, ap, List, w64, SFits, rules}
+use Rattle.std.proofs.Math.IntN.{suc_ℤ}
+use lib.Signed.{lt_z}
+use Rattle.meaning.specs.Number.{MIN}
 use Rattle.meaning.specs.Interval.{Interval, span, only, abs_rest}
-use Rattle.laws.proofs.Integers.{zarith}
-use Rattle.laws.proofs.Machine.{num, lit, same, differ, back}
+use Rattle.laws.proofs.Integers.{zarith, is_within}
+use Rattle.laws.proofs.Machine.{num, back}
 use Rattle.slices.proofs.Lent.{wrote_as}
+use Rattle.interval.proofs.Cuts.{part_some, part_none}
 use Rattle.interval.proofs.SignRules.{abs_least, abs_from_least, abs_plain}
 use Rattle.interval.proofs.sign.abs_pair.Goals as goal
 
-pub magnitudes-m-requires : goal.magnitudes-m-requires
-magnitudes-m-requires c = record {
-  above_least = omega zarith;
-  first_ordered = omega (zarith, num c.ranges.e, differ c.args.e MIN c.if-e-eq-MIN.false);
-}
+pub returns-then-left-gt-MIN : goal.returns-then-left-gt-MIN
+returns-then-left-gt-MIN c =
+    let l : SFits w64 c.args.left.lo = search rules in
+    let m = c.magnitudes-m in
+    wrote_as ((λ j. span (back m.result.lo (search rules) j) (back m.result.hi (search rules) j)) ∙ m.ensures ∙ abs_plain _ _ (omega (zarith, num l))) c.put_one.ensures
 
-pub magnitudes-m-requires-else-s-eq-MIN : goal.magnitudes-m-requires-else-s-eq-MIN
-magnitudes-m-requires-else-s-eq-MIN c = record {
-  above_least = omega (zarith, num c.ranges.s, differ c.args.s MIN c.if-s-eq-MIN.false);
-  first_ordered = omega (zarith, num c.ranges.s, num c.ranges.e, c.requires.first_proper.ordered);
-}
+pub above-requires : goal.above-requires
+above-requires c =
+    let l : SFits w64 c.args.left.lo = search rules in
+    let h : SFits w64 c.args.left.hi = search rules in
+    is_within (omega (zarith, num l)) (omega (zarith, num h))
 
-pub returns-then-e-eq-MIN : goal.returns-then-e-eq-MIN
-returns-then-e-eq-MIN c =
-    wrote_as (abs_least _ _ (same {y = MIN} c.ranges.s (lit _ tt) c.if-s-eq-MIN.true) (same {y = MIN} c.ranges.e (lit _ tt) c.if-e-eq-MIN.true)) c.put_one.ensures
-
-pub returns-else-e-eq-MIN : goal.returns-else-e-eq-MIN
-returns-else-e-eq-MIN c =
-    let h : MIN <ℤ c.args.e = omega (zarith, num c.ranges.e, differ c.args.e MIN c.if-e-eq-MIN.false) in
-    let l = back c.magnitudes-m.result.lo (search rules) in
-    let r = back c.magnitudes-m.result.hi (search rules) in
+pub returns-in-Some : goal.returns-in-Some
+returns-in-Some c =
+    let l : SFits w64 c.args.left.lo = search rules in
+    let h : SFits w64 c.args.left.hi = search rules in
+    let m = c.magnitudes-m-in-Some in
+    let p = part_some (lt_z MIN c.args.left.hi) (suc_ℤ MIN) c.args.left.hi c.in-Some.ensures in
     wrote_as
-    ((λ j. only MIN ++ span (l j) (r j))
-    ∙ ap (λ (x : List Interval). only MIN ++ x) (c.magnitudes-m.ensures ∙ ap (abs_rest (neg_ℤ MAX)) (to_z-of_z c.ranges.e))
-    ∙ abs_from_least _ _ (same {y = MIN} c.ranges.s (lit _ tt) c.if-s-eq-MIN.true) h)
+    ((λ j. only MIN ++ span (back m.result.lo (search rules) j) (back m.result.hi (search rules) j))
+    ∙ ap (λ (x : List Interval). only MIN ++ x) (m.ensures ∙ (λ j. abs_rest (p.1 j) (p.2 j)))
+    ∙ abs_from_least _ _ (omega (zarith, num l)) (omega (zarith, p.0, num h)))
     c.put_two.ensures
 
-pub returns-else-s-eq-MIN : goal.returns-else-s-eq-MIN
-returns-else-s-eq-MIN c =
-    let h : MIN <ℤ c.args.s = omega (zarith, num c.ranges.s, differ c.args.s MIN c.if-s-eq-MIN.false) in
-    let l = back c.magnitudes-m-else-s-eq-MIN.result.lo (search rules) in
-    let r = back c.magnitudes-m-else-s-eq-MIN.result.hi (search rules) in
-    wrote_as
-    ((λ j. span (l j) (r j)) ∙ c.magnitudes-m-else-s-eq-MIN.ensures ∙ (λ j. abs_rest (to_z-of_z c.ranges.s j) (to_z-of_z c.ranges.e j)) ∙ abs_plain _ _ h)
-    c.put_one-else-s-eq-MIN.ensures
+pub returns-in-None : goal.returns-in-None
+returns-in-None c =
+    let l : SFits w64 c.args.left.lo = search rules in
+    let h : SFits w64 c.args.left.hi = search rules in
+    let p = part_none (lt_z MIN c.args.left.hi) (suc_ℤ MIN) c.args.left.hi c.in-None.ensures in
+    wrote_as (abs_least _ _ (omega (zarith, num l)) (omega (zarith, p, num h))) c.put_one-in-None.ensures

@@ -1,32 +1,24 @@
--- The branches are the cases of the definition, and no number that is negated is MIN.
--- Assumes nothing.
-use mathlib.Core.Path.{◌∙◌, ap}
-use lib.IntN.{pos}
-use lib.Signed.{◌<ℤ◌}
-use mir.Facts.{to_z-of_z}
-use Rattle.meaning.specs.Number.{MIN, larger}
+-- The branches are the cases of the definition, and no number that is negated is MIN. Assumes nothing.
+use Rattle.std.proofs.Common.{◌∙◌, ap, pos, neg_ℤ, ◌<ℤ◌, w64, SFits, to_z-of_z, rules}
+use Rattle.std.specs.Int.{int_max}
+use Rattle.meaning.specs.Number.{MIN}
 use Rattle.meaning.specs.Interval.{span}
 use Rattle.laws.proofs.Integers.{zarith}
-use Rattle.laws.proofs.Machine.{num, ok}
-use Rattle.number.proofs.Points.{neg_gives}
-use Rattle.interval.proofs.SignRules.{rest_positive, rest_negative, rest_both}
+use Rattle.laws.proofs.Machine.{num, back}
+use Rattle.interval.proofs.SignRules.{negated, max_larger, rest_positive, rest_negative, rest_both}
 use Rattle.interval.proofs.sign.magnitudes.Goals as goal
+use Rattle.interval.proofs.sign.magnitudes.Goals.{then-left-ge0, else-left-ge0+then-left-le0, else-left-ge0+else-left-le0}
 
-pub returns-then-s-ge0 : goal.returns-then-s-ge0
-returns-then-s-ge0 c =
-    (λ j. span (to_z-of_z c.ranges.s j) (to_z-of_z c.ranges.e j)) ∙ rest_positive _ _ (omega (zarith, num c.ranges.s))
-
-pub returns-then-e-le0 : goal.returns-then-e-le0
-returns-then-e-le0 c =
-    let n = c.neg-m in
-    let k : MIN <ℤ c.args.e = omega (zarith, c.requires.above_least, c.requires.first_ordered) in
-    let e = neg_gives c.ranges.e c.neg.type_inv k c.neg.ensures in
-    let b = neg_gives c.ranges.s n.type_inv c.requires.above_least n.ensures in
-    (λ j. span (e j) (b j)) ∙ rest_negative _ _ (omega (zarith, num c.ranges.s)) (omega (zarith, num c.ranges.e))
-
-pub returns-else-e-le0 : goal.returns-else-e-le0
-returns-else-e-le0 c =
-    let n = c.neg-m in
-    let b = neg_gives c.ranges.s n.type_inv c.requires.above_least n.ensures in
-    let g = to_z-of_z (ok c.greater.type_inv) ∙ c.greater.ensures ∙ (λ j. larger (b j) (to_z-of_z c.ranges.e j)) in
-    ap (span (pos 0)) g ∙ rest_both _ _ (omega (zarith, num c.ranges.s)) (omega (zarith, num c.ranges.e))
+pub returns : goal.returns
+returns c =
+    let l : SFits w64 c.args.left.lo = search rules in
+    let h : SFits w64 c.args.left.hi = search rules in
+    let a = c.requires in
+    let b : MIN <ℤ c.args.left.hi = omega (zarith, c.args.left.ordered) in
+    elim c.if-left-ge0.branch [
+      | then-left-ge0 w ↦ (λ j. span (w.result-is j).0 (w.result-is j).1.0) ∙ rest_positive _ _ (omega (zarith, num l))
+      | else-left-ge0+then-left-le0 w ↦ (λ j. span (w.result-is j).0 (w.result-is j).1.0) ∙ (λ j. span (negated h b j) (negated l a j)) ∙ rest_negative _ _ (omega (zarith, num l)) (omega (zarith, num h))
+      | else-left-ge0+else-left-le0 w ↦ (λ j. span (w.result-is j).0 (w.result-is j).1.0)
+          ∙ ap (span (pos 0)) (back _ w.max.type_inv ∙ w.max.ensures.value ∙ (λ j. int_max (to_z-of_z h j) (negated l a j)) ∙ max_larger c.args.left.hi (neg_ℤ c.args.left.lo))
+          ∙ rest_both _ _ (omega (zarith, num l)) (omega (zarith, num h))
+    ]

@@ -1,69 +1,43 @@
--- The product has the product of the magnitudes as its magnitude, above the middle for equal signs and below it for different ones.
--- Assumes nothing.
-use Prim.Native.Nat.{◌^◌, ◌≤◌, ◌<◌}
-use Rattle.wide.proofs.Words.{Is, is_word, held_is}
-use Rattle.wide.proofs.Middle.{high_small, neg_size, pos_size, size_le, is_above, is_below, is_pp, is_nn, is_pn, is_np}
+-- The product has the product of the magnitudes as its magnitude, above the middle for equal signs and below it for different ones. Assumes nothing.
+use Rattle.std.proofs.Common.{◌≡◌, ◌∙◌, ◌+◌, ◌*◌, ◌^◌, ◌≤◌, nat_abs, pos, ap, sym, to_z-of_z}
+use mathlib.Core.Bool.{beq}
+use lib.Signed.{lt_z}
+use Rattle.laws.proofs.Machine.{rd}
+use Rattle.wide.proofs.Words.{held_is}
+use Rattle.wide.proofs.Middle.{high_small, is_above, is_below, is_up, is_down}
 use Rattle.wide.proofs.exact.exact.Goals as goal
 use Rattle.wide.proofs.exact.exact.Goals.{After-full-m}
 
--- after the call of `full`: the numbers x and y by their words, and by sign and magnitude
-module _ (f : After-full-m) where
-  high : f.full-m.result.hi ≤ 2 ^ 62
+-- after the call of `full`: its product, and the signs of x and y
+module _ (c : After-full-m) where
+  magnitudes : c.full-m.result.hi * 2 ^ 64 + c.full-m.result.lo ≡ nat_abs c.args.x * nat_abs c.args.y
+  magnitudes =
+      c.full-m.ensures
+      ∙ (λ i. (c.unsigned_abs.ensures.value ∙ ap nat_abs (to_z-of_z c.ranges.x)) i * (c.unsigned_abs-2.ensures.value ∙ ap nat_abs (to_z-of_z c.ranges.y)) i)
+
+  high : c.full-m.result.hi ≤ 2 ^ 62
   high =
-      let c₂ = f.before.before.before in
-      high_small f.size.result f.size-2.result f.full-m.result.hi f.full-m.result.lo
-      (size_le c₂.word-a.type_inv f.size.ensures) (size_le c₂.word-b.type_inv f.size-2.ensures) f.full-m.ensures
+      high_small c.unsigned_abs.result c.unsigned_abs-2.result c.full-m.result.hi c.full-m.result.lo c.unsigned_abs.ensures.bound c.unsigned_abs-2.ensures.bound c.full-m.ensures
 
-  x-word : Is f.args.x f.word-a.result (2 ^ 63)
-  x-word = let c₁ = f.before.before.before.before in is_word c₁.args.x c₁.ranges.x c₁.word-a.ensures
-
-  y-word : Is f.args.y f.word-b.result (2 ^ 63)
-  y-word = let c₂ = f.before.before.before in is_word c₂.args.y c₂.ranges.y c₂.word-b.ensures
-
-  x-neg : f.word-a.result < 2 ^ 63 → Is f.args.x 0 f.size.result
-  x-neg t = neg_size t f.size.ensures x-word
-
-  x_pos : 2 ^ 63 ≤ f.word-a.result → Is f.args.x f.size.result 0
-  x_pos t = pos_size t f.size.ensures x-word
-
-  y-neg : f.word-b.result < 2 ^ 63 → Is f.args.y 0 f.size-2.result
-  y-neg t = neg_size t f.size-2.ensures y-word
-
-  y-pos : 2 ^ 63 ≤ f.word-b.result → Is f.args.y f.size-2.result 0
-  y-pos t = pos_size t f.size-2.ensures y-word
+  signs : beq (lt_z c.args.x (pos 0)) (lt_z c.args.y (pos 0)) ≡ beq (lt_z (rd c.args.x) (pos 0)) (lt_z (rd c.args.y) (pos 0))
+  signs i = beq (lt_z (sym (to_z-of_z c.ranges.x) i) (pos 0)) (lt_z (sym (to_z-of_z c.ranges.y) i) (pos 0))
 
 pub above-requires : goal.above-requires
-above-requires c = high c.before.before
+above-requires c = high c.before
 
 pub below-requires : goal.below-requires
-below-requires c = high c.before.before
+below-requires c = high c.before
 
-pub below-requires-then-b-lt-SIGN-2 : goal.below-requires-then-b-lt-SIGN-2
-below-requires-then-b-lt-SIGN-2 c = high c.before.before
-
-pub above-requires-else-b-lt-SIGN-2 : goal.above-requires-else-b-lt-SIGN-2
-above-requires-else-b-lt-SIGN-2 c = high c.before.before
-
-pub returns-then-b-lt-SIGN : goal.returns-then-b-lt-SIGN
-returns-then-b-lt-SIGN c =
+pub returns-then-x-y : goal.returns-then-x-y
+returns-then-x-y c =
+    let f = c.before.before in
     let m = c.full-m.result in
     let r = c.above.result in
-    held_is r.hi r.lo (is_above (2 ^ 64) (2 ^ 63) m.hi m.lo (is_nn (x-neg c.before.before.before c.if-a-lt-SIGN.true) (y-neg c.before.before.before c.if-b-lt-SIGN.true)) c.full-m.ensures c.above.ensures)
+    held_is r.hi r.lo (is_above (2 ^ 64) (2 ^ 63) m.hi m.lo (is_up c.args.x c.args.y (signs f ∙ c.if-x-y.true)) (magnitudes f) c.above.ensures)
 
-pub returns-else-b-lt-SIGN : goal.returns-else-b-lt-SIGN
-returns-else-b-lt-SIGN c =
+pub returns-else-x-y : goal.returns-else-x-y
+returns-else-x-y c =
+    let f = c.before.before in
     let m = c.full-m.result in
     let r = c.below.result in
-    held_is r.hi r.lo (is_below (2 ^ 64) (2 ^ 63) m.hi m.lo r.hi r.lo (is_np (x-neg c.before.before.before c.if-a-lt-SIGN.true) (y-pos c.before.before.before c.if-b-lt-SIGN.false)) c.full-m.ensures c.below.ensures)
-
-pub returns-then-b-lt-SIGN-2 : goal.returns-then-b-lt-SIGN-2
-returns-then-b-lt-SIGN-2 c =
-    let m = c.full-m.result in
-    let r = c.below-then-b-lt-SIGN-2.result in
-    held_is r.hi r.lo (is_below (2 ^ 64) (2 ^ 63) m.hi m.lo r.hi r.lo (is_pn (x_pos c.before.before.before c.if-a-lt-SIGN.false) (y-neg c.before.before.before c.if-b-lt-SIGN-2.true)) c.full-m.ensures c.below-then-b-lt-SIGN-2.ensures)
-
-pub returns-else-b-lt-SIGN-2 : goal.returns-else-b-lt-SIGN-2
-returns-else-b-lt-SIGN-2 c =
-    let m = c.full-m.result in
-    let r = c.above-else-b-lt-SIGN-2.result in
-    held_is r.hi r.lo (is_above (2 ^ 64) (2 ^ 63) m.hi m.lo (is_pp (x_pos c.before.before.before c.if-a-lt-SIGN.false) (y-pos c.before.before.before c.if-b-lt-SIGN-2.false)) c.full-m.ensures c.above-else-b-lt-SIGN-2.ensures)
+    held_is r.hi r.lo (is_below (2 ^ 64) (2 ^ 63) m.hi m.lo r.hi r.lo (is_down c.args.x c.args.y (signs f ∙ c.if-x-y.false)) (magnitudes f) c.below.ensures)

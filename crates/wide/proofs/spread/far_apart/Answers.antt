@@ -1,67 +1,51 @@
--- The distance of the words is the distance of the numbers: it is far from two windows on, near behind, and else the lower words decide.
--- Assumes nothing.
-use mathlib.Core.Path.{◌≡◌}
-use mathlib.Core.Bool.{true, false}
-use Prim.Native.Nat.{◌+◌, ◌*◌, ◌^◌, ◌≤◌, ◌<◌}
-use native.Mathlib.Omega.{arith}
+-- The distance of the words is the distance of the numbers: it is far from two windows on, near behind, and else the lower words decide. Assumes nothing.
+use Rattle.std.proofs.Common.{◌≡◌, ◌∙◌, ◌+◌, ◌*◌, ◌^◌, ◌≤◌, ◌<◌, true, false, leb, eqb, arith}
+use borrow.Author.Tests.{eqb-true, eqb-false, ne_eqb, leb-true, leb-false}
 use Rattle.meaning.specs.Interval.{far}
-use Rattle.wide.specs.Exact.{held}
+use Rattle.laws.proofs.Integers.{by_test}
+use Rattle.wide.specs.declared.product.Wide.{Wide}
+use Rattle.wide.specs.Exact.{number_of}
 use Rattle.wide.proofs.Order.{near_behind, far_beyond, near_next, far_next, near_same, far_same}
 use Rattle.wide.proofs.Words.{is_held}
 use Rattle.wide.proofs.Spreads.{far_yes, far_no}
 use Rattle.wide.proofs.spread.far_apart.Goals as goal
-use Rattle.wide.proofs.spread.far_apart.Goals.{Start}
 
-module _ (c : Start) where
-  low-p : c.args.p.lo < 2 ^ 64
-  low-p = omega arith
+-- by the words
+module _ (p q : Wide) where
+  yes : p.hi * 2 ^ 64 + p.lo + 18446744073709551615 ≤ q.hi * 2 ^ 64 + q.lo → true ≡ far (number_of p) (number_of q)
+  yes h = far_yes (is_held p.hi p.lo) (is_held q.hi q.lo) h
 
-  low-q : c.args.q.lo < 2 ^ 64
-  low-q = omega arith
+  no : q.hi * 2 ^ 64 + q.lo < p.hi * 2 ^ 64 + p.lo + 18446744073709551615 → false ≡ far (number_of p) (number_of q)
+  no h = far_no (is_held p.hi p.lo) (is_held q.hi q.lo) h
 
-  -- by the words
-  yes : c.args.p.hi * 2 ^ 64 + c.args.p.lo + 18446744073709551615 ≤ c.args.q.hi * 2 ^ 64 + c.args.q.lo → true ≡ far (held c.args.p.hi c.args.p.lo) (held c.args.q.hi c.args.q.lo)
-  yes h = far_yes (is_held c.args.p.hi c.args.p.lo) (is_held c.args.q.hi c.args.q.lo) h
+pub returns-in-None : goal.returns-in-None
+returns-in-None c = let x = c.args in no x.p x.q (near_behind x.p.hi x.q.hi x.p.lo x.q.lo (omega (arith, c.in-None.ensures)) (omega arith))
 
-  no : c.args.q.hi * 2 ^ 64 + c.args.q.lo < c.args.p.hi * 2 ^ 64 + c.args.p.lo + 18446744073709551615 → false ≡ far (held c.args.p.hi c.args.p.lo) (held c.args.q.hi c.args.q.lo)
-  no h = far_no (is_held c.args.p.hi c.args.p.lo) (is_held c.args.q.hi c.args.q.lo) h
-
-pub returns-then-k-h : goal.returns-then-k-h
-returns-then-k-h c =
+pub returns-then-p-eq0 : goal.returns-then-p-eq0
+returns-then-p-eq0 c =
     let x = c.args in
-    no c.before (near_behind x.p.hi x.q.hi x.p.lo x.q.lo c.if-k-h.true (low-q c.before))
+    let e = c.in-Some-eq0.ensures in
+    let n = c.in-Some-eq0.field-0-test in
+    by_test (eqb x.q.lo 18446744073709551615)
+    (λ a. a ∙ yes x.p x.q (far_same x.p.hi x.q.hi x.p.lo x.q.lo (omega arith) (omega (arith, eqb-true x.q.lo 18446744073709551615 a))))
+    (λ a. a ∙ no x.p x.q (near_same x.p.hi x.q.hi x.p.lo x.q.lo (omega arith) (omega (arith, eqb-false x.q.lo 18446744073709551615 a))))
 
-pub returns-then-k-h-ge2 : goal.returns-then-k-h-ge2
-returns-then-k-h-ge2 c =
+pub returns-else-p-eq0 : goal.returns-else-p-eq0
+returns-else-p-eq0 c =
     let x = c.args in
-    yes c.before.before (far_beyond x.p.hi x.q.hi x.p.lo x.q.lo c.if-k-h-ge2.true (low-p c.before.before))
+    let e = c.in-Some-eq0.ensures in
+    let n = c.in-Some-eq0.field-0-test in
+    ne_eqb x.p.lo 0 c.if-p-eq0.false ∙ no x.p x.q (near_same x.p.hi x.q.hi x.p.lo x.q.lo (omega arith) (omega (arith, c.if-p-eq0.false)))
 
-pub returns-then-u-v-ge2 : goal.returns-then-u-v-ge2
-returns-then-u-v-ge2 c =
+pub returns-in-Some-eq1 : goal.returns-in-Some-eq1
+returns-in-Some-eq1 c =
     let x = c.args in
-    no c.before.before.before.before.before (near_next x.p.hi x.q.hi x.p.lo x.q.lo c.if-k-h-ge2.false c.if-v-u.true c.if-u-v-ge2.true)
+    let e = c.in-Some-eq1.ensures in
+    let n = c.in-Some-eq1.field-0-test in
+    let d = c.saturating_sub.ensures in
+    by_test (leb c.saturating_sub.result 1)
+    (λ a. let l = leb-true c.saturating_sub.result 1 a in a ∙ yes x.p x.q (far_next x.p.hi x.q.hi x.p.lo x.q.lo (omega arith) (omega arith)))
+    (λ a. let l = leb-false c.saturating_sub.result 1 a in a ∙ no x.p x.q (near_next x.p.hi x.q.hi x.p.lo x.q.lo (omega arith) (omega arith) (omega arith)))
 
-pub returns-else-u-v-ge2 : goal.returns-else-u-v-ge2
-returns-else-u-v-ge2 c =
-    let x = c.args in
-    yes c.before.before.before.before.before (far_next x.p.hi x.q.hi x.p.lo x.q.lo c.if-h-k.true (omega (arith, c.if-u-v-ge2.false)))
-
-pub returns-else-v-u : goal.returns-else-v-u
-returns-else-v-u c =
-    let x = c.args in
-    yes c.before.before.before.before (far_next x.p.hi x.q.hi x.p.lo x.q.lo c.if-h-k.true (omega (arith, c.if-v-u.false)))
-
-pub returns-then-u-gt0 : goal.returns-then-u-gt0
-returns-then-u-gt0 c =
-    let x = c.args in
-    no c.before.before.before.before (near_same x.p.hi x.q.hi x.p.lo x.q.lo c.if-h-k.false (omega (arith, low-q c.before.before.before.before, c.if-u-gt0.true)))
-
-pub returns-then-v-lt18446744073709551615 : goal.returns-then-v-lt18446744073709551615
-returns-then-v-lt18446744073709551615 c =
-    let x = c.args in
-    no c.before.before.before.before.before (near_same x.p.hi x.q.hi x.p.lo x.q.lo c.if-h-k.false (omega (arith, c.if-v-lt18446744073709551615.true)))
-
-pub returns : goal.returns
-returns c =
-    let x = c.args in
-    yes c.before.before.before.before.before (far_same x.p.hi x.q.hi x.p.lo x.q.lo c.if-k-h.false (omega (arith, c.if-u-gt0.false, c.if-v-lt18446744073709551615.false)))
+pub returns-in-Some : goal.returns-in-Some
+returns-in-Some c = let x = c.args in let e = c.in-Some.ensures in let t = c.in-Some.field-0-test in let i = c.in-Some.is in yes x.p x.q (far_beyond x.p.hi x.q.hi x.p.lo x.q.lo (omega arith) (omega arith))

@@ -7,82 +7,74 @@ use mathlib.Core.Bool.{Bool, true, false}
 use Prim.Native.Nat.{ℕ, ◌+◌, ◌^◌, ◌<◌}
 use native.Mathlib.Omega.{arith}
 use lib.Dec.{eqb}
-use lib.IntN.{ℤ, pos}
+use lib.IntN.{pos}
+use lib.Signed.{◌≤ℤ◌}
 use Rattle.meaning.specs.Number.{eq_z, window, wrap}
 use Rattle.meaning.specs.Interval.{one, two, far}
 use Rattle.laws.proofs.Machine.{rd}
 use Rattle.laws.proofs.Spread.{spread_whole, spread_one, spread_middle, spread_two}
-use Rattle.wide.specs.Exact.{held}
+use Rattle.wide.specs.Exact.{number_of}
 use Rattle.wide.proofs.Words.{is_held, in_order, is_lit, window_held, end_held}
 use Rattle.wide.proofs.Order.{next}
 use Rattle.wide.proofs.Spreads.{eq_test, near_words}
+use Rattle.wide.specs.declared.product.Wide.{Wide}
 use Rattle.wide.proofs.spread.spread_of.Goals as goal
-use Rattle.wide.proofs.spread.spread_of.Goals.{After-far_apart, After-unword-v, Start}
+use Rattle.wide.proofs.spread.spread_of.Goals.{After-unword-v}
 
-abbrev P : Start → ℤ
-P c = held c.args.p.hi c.args.p.lo
+-- two exact numbers that are not far apart, by their words
+module _ (p q : Wide) (a : p.lo < 2 ^ 64) (b : q.lo < 2 ^ 64) where
+  -- in two windows: the next window
+  neighbour : number_of p ≤ℤ number_of q → far (number_of p) (number_of q) ≡ false → (p.hi ≡ q.hi → ⊥) → q.hi ≡ p.hi + 1
+  neighbour o f n =
+      next p.hi q.hi p.lo q.lo a b (in_order (is_held p.hi p.lo) (is_held q.hi q.lo) o) (near_words (is_held p.hi p.lo) (is_held q.hi q.lo) f) n
 
-abbrev Q : Start → ℤ
-Q c = held c.args.q.hi c.args.q.lo
+  -- the tests of the windows
+  same_window : {t : Bool} → eqb p.hi q.hi ≡ t → eq_z (window (number_of p)) (window (number_of q)) ≡ t
+  same_window e = eq_test (window_held p.hi p.lo a) (window_held q.hi q.lo b) ∙ e
 
-module _ (c : Start) where
-  low-p : c.args.p.lo < 2 ^ 64
-  low-p = omega arith
+  p_window : {t : Bool} → eqb p.hi (2 ^ 63) ≡ t → eq_z (window (number_of p)) (pos 0) ≡ t
+  p_window e = eq_test (window_held p.hi p.lo a) (is_lit 0 (2 ^ 63)) ∙ e
 
-  low-q : c.args.q.lo < 2 ^ 64
-  low-q = omega arith
+  q_window : eqb q.hi (1 + 2 ^ 63) ≡ true → eq_z (window (number_of q)) (pos 1) ≡ true
+  q_window e = eq_test (window_held q.hi q.lo b) (is_lit 1 (2 ^ 63)) ∙ e
 
--- the test of the distance
-far-is : (f : After-far_apart) {b : Bool} → f.far_apart.result ≡ b → far (P f.before) (Q f.before) ≡ b
-far-is f e = sym f.far_apart.ensures ∙ e
-
--- not far, and in two windows: the next window
-neighbour : (f : After-far_apart) → f.far_apart.result ≡ false → (f.args.p.hi ≡ f.args.q.hi → ⊥) → f.args.q.hi ≡ f.args.p.hi + 1
-neighbour f e n =
-    let c = f.before in
-    let x = c.args in
-    next x.p.hi x.q.hi x.p.lo x.q.lo (low-p c) (low-q c)
-    (in_order (is_held x.p.hi x.p.lo) (is_held x.q.hi x.q.lo) c.requires)
-    (near_words (is_held x.p.hi x.p.lo) (is_held x.q.hi x.q.lo) (far-is f e)) n
-
--- the tests of the windows
-module _ (c : Start) where
-  same-window : {b : Bool} → eqb c.args.p.hi c.args.q.hi ≡ b → eq_z (window (P c)) (window (Q c)) ≡ b
-  same-window e = eq_test (window_held c.args.p.hi c.args.p.lo (low-p c)) (window_held c.args.q.hi c.args.q.lo (low-q c)) ∙ e
-
-  p-window : {b : Bool} → eqb c.args.p.hi (2 ^ 63) ≡ b → eq_z (window (P c)) (pos 0) ≡ b
-  p-window e = eq_test (window_held c.args.p.hi c.args.p.lo (low-p c)) (is_lit 0 (2 ^ 63)) ∙ e
-
-  q-window : eqb c.args.q.hi (1 + 2 ^ 63) ≡ true → eq_z (window (Q c)) (pos 1) ≡ true
-  q-window e = eq_test (window_held c.args.q.hi c.args.q.lo (low-q c)) (is_lit 1 (2 ^ 63)) ∙ e
+pub returns-then-far_apart : goal.returns-then-far_apart
+returns-then-far_apart c = sym (spread_whole _ _ (sym c.far_apart.ensures ∙ c.if-far_apart.true))
 
 -- after both calls of `unword`: their results are the wrapped values
 module _ (c : After-unword-v) where
-  u-is : rd c.unword-u.result ≡ wrap (P c.before.before.before.before)
-  u-is =
-      let s = c.before.before.before.before in
-      end_held s.args.p.hi s.args.p.lo c.unword-u.result (low-p s) c.unword-u.type_inv c.unword-u.ensures
+  near : far (number_of c.args.p) (number_of c.args.q) ≡ false
+  near = sym c.far_apart.ensures ∙ c.if-far_apart.false
 
-  v-is : rd c.unword-v.result ≡ wrap (Q c.before.before.before.before)
-  v-is =
-      end_held c.args.q.hi c.args.q.lo c.unword-v.result (low-q c.before.before.before.before) c.unword-v.type_inv c.unword-v.ensures
+  u_is : rd c.unword-u.result ≡ wrap (number_of c.args.p)
+  u_is = end_held c.args.p.hi c.args.p.lo c.unword-u.result (omega arith) c.unword-u.type_inv c.unword-u.ensures
 
-pub returns-then-far_apart : goal.returns-then-far_apart
-returns-then-far_apart c = sym (spread_whole (P c.before.before) (Q c.before.before) (far-is c.before c.if-far_apart.true))
+  v_is : rd c.unword-v.result ≡ wrap (number_of c.args.q)
+  v_is = end_held c.args.q.hi c.args.q.lo c.unword-v.result (omega arith) c.unword-v.type_inv c.unword-v.ensures
 
-pub returns-then-h-k : goal.returns-then-h-k
-returns-then-h-k c =
-    ap₂ one (u-is c.before) (v-is c.before)
-    ∙ sym (spread_one (P c.before.before.before.before.before) (Q c.before.before.before.before.before) (far-is c.before.before.before.before c.if-far_apart.false) (same-window c.before.before.before.before.before (eq-eqb _ _ c.if-h-k.true)))
+pub returns-then-p-q : goal.returns-then-p-q
+returns-then-p-q c =
+    let x = c.args in
+    let f = c.before.before.before in
+    ap₂ one (u_is f) (v_is f)
+    ∙ sym (spread_one _ _ (near f) (same_window x.p x.q (omega arith) (omega arith) (eq-eqb _ _ c.if-p-q.true)))
 
-pub returns-then-h : goal.returns-then-h
-returns-then-h c =
-    let k = neighbour c.before.before.before.before.before c.if-far_apart.false c.if-h-k.false in
-    ap₂ two (v-is c.before.before) (u-is c.before.before)
-    ∙ sym (spread_middle (P c.before.before.before.before.before.before) (Q c.before.before.before.before.before.before) (far-is c.before.before.before.before.before c.if-far_apart.false) (same-window c.before.before.before.before.before.before (ne_eqb _ _ c.if-h-k.false)) (p-window c.before.before.before.before.before.before (eq-eqb _ _ c.if-h.true))
-    (q-window c.before.before.before.before.before.before (eq-eqb _ _ (k ∙ ap (λ (n : ℕ). n + 1) c.if-h.true))))
+pub returns-then-p-eq-MIDDLE : goal.returns-then-p-eq-MIDDLE
+returns-then-p-eq-MIDDLE c =
+    let x = c.args in
+    let f = c.before.before.before.before.before in
+    let a : x.p.lo < 2 ^ 64 = omega arith in
+    let b : x.q.lo < 2 ^ 64 = omega arith in
+    let k = neighbour x.p x.q a b c.requires (near f) c.if-p-q.false in
+    ap₂ two (v_is f) (u_is f)
+    ∙ sym (spread_middle _ _ (near f) (same_window x.p x.q a b (ne_eqb _ _ c.if-p-q.false)) (p_window x.p x.q a b (eq-eqb _ _ c.if-p-eq-MIDDLE.true))
+    (q_window x.p x.q a b (eq-eqb _ _ (k ∙ ap (λ (n : ℕ). n + 1) c.if-p-eq-MIDDLE.true))))
 
-pub returns-else-h : goal.returns-else-h
-returns-else-h c =
-    ap₂ two (u-is c.before.before) (v-is c.before.before)
-    ∙ sym (spread_two (P c.before.before.before.before.before.before) (Q c.before.before.before.before.before.before) (far-is c.before.before.before.before.before c.if-far_apart.false) (same-window c.before.before.before.before.before.before (ne_eqb _ _ c.if-h-k.false)) (p-window c.before.before.before.before.before.before (ne_eqb _ _ c.if-h.false)))
+pub returns-else-p-eq-MIDDLE : goal.returns-else-p-eq-MIDDLE
+returns-else-p-eq-MIDDLE c =
+    let x = c.args in
+    let f = c.before.before.before.before.before in
+    let a : x.p.lo < 2 ^ 64 = omega arith in
+    let b : x.q.lo < 2 ^ 64 = omega arith in
+    ap₂ two (u_is f) (v_is f)
+    ∙ sym (spread_two _ _ (near f) (same_window x.p x.q a b (ne_eqb _ _ c.if-p-q.false)) (p_window x.p x.q a b (ne_eqb _ _ c.if-p-eq-MIDDLE.false)))

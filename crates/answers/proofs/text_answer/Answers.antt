@@ -1,6 +1,0 @@
--- The fields are the words.
-use mathlib.Core.Path.{refl}
-use Rattle.answers.proofs.text_answer.Goals as goal
-
-pub returns : goal.returns
-returns c = refl

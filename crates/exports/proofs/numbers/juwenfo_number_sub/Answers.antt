@@ -1,7 +1,0 @@
--- It is the library's answer.
-use Rattle.meaning.specs.Number as point
-use Rattle.exports.proofs.Handed.{given2}
-use Rattle.exports.proofs.numbers.juwenfo_number_sub.Goals as goal
-
-pub returns : goal.returns
-returns c = given2 c.ranges.x c.sub.type_inv point.difference c.ranges.y c.sub.ensures

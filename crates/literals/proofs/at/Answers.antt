@@ -1,7 +1,0 @@
--- `literals::at` meets its contract: past the end `get_or` gives its default.
-use mathlib.Core.Path.{sym}
-use lib.ListN.{get_or-eq_default}
-use Rattle.literals.proofs.at.Goals as goal
-
-pub returns-else-i-text : goal.returns-else-i-text
-returns-else-i-text c = sym (get_or-eq_default c.args.text.now 0 c.if-i-text.false)

@@ -1,2 +1,0 @@
--- Laws of the set evaluator.
-pub mod Reading

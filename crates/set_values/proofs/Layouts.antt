@@ -1,0 +1,192 @@
+-- The layout of the registers' sets: where a register's slot stands in it, and what it is after that slot took another set. Assumes nothing.
+use mathlib.Core.Path.{◌≡◌, refl, sym, ap, ◌∙◌}
+use mathlib.Core.List.{List, [], ◌∷◌, ◌++◌, append_assoc, append-nil}
+use Prim.Native.Nat.{ℕ, zero, suc, ◌+◌, ◌-◌, ◌*◌, ◌≤◌, ◌<◌}
+use native.Mathlib.Omega.{arith}
+use lib.IntN.{ℤ, pos, nat_abs}
+use mir.Syntax.{w64}
+use mir.Facts.{to_z-of_z}
+use Rattle.laws.proofs.Machine.{rd}
+use lib.ListN.{length, get_or, set, take, drop, replicate, length-replicate, replicate-append-replicate}
+use Rattle.std.specs.Prelude.{slice_index_or, slice_set}
+use lib.Seq.{take_all, take_at, drop_at, drop-cons, drop-length}
+use borrow.Rule.Slice.PartMut.{mid_of, put_mid}
+use Rattle.std.proofs.lemmas.List.{length-append, set_split, take-append-drop, length-set}
+use Rattle.std.proofs.lemmas.Slice.{take-put_mid}
+use Rattle.meaning.specs.Lists.{All}
+use Rattle.meaning.specs.Interval.{only}
+use Rattle.meaning.specs.NumberIntervals.{Set, flat}
+use Rattle.meaning.specs.Sheet.{registers}
+use Rattle.meaning.specs.Check.{at, slot, layout, sets_need}
+use Rattle.laws.proofs.CheckSets.{zero_normal}
+use Rattle.laws.proofs.All.{all_from, all_get, all_map, all_set, all_replicate}
+use Rattle.laws.proofs.Flat.{length_flat}
+use Rattle.laws.proofs.Slots.{Short, length_slot, layout_back}
+use Rattle.set_values.specs.Held.{padded, shown, Held}
+use Rattle.set_values.specs.Slots.{sets_in, Sized, Slots}
+
+-- ---- slots in a layout
+
+layout_append : (S T : List Set) → layout (S ++ T) ≡ layout S ++ layout T
+unfolding layout
+layout_append [] T = refl
+layout_append (s ∷ S) T = ap (λ (l : List ℤ). slot s ++ l) (layout_append S T) ∙ sym (append_assoc (slot s) (layout S) (layout T))
+
+front_length : (S : List Set) (r : ℕ) → All Short S → r ≤ length S → length (layout (take r S)) ≡ 33 * r
+unfolding layout
+front_length S zero h k = refl
+front_length [] (suc r) h k = absurd (omega arith)
+front_length (s ∷ S) (suc r) h k = length-append (slot s) (layout (take r S)) ∙ omega (arith, length_slot s h.0, front_length S r h.1 (omega arith))
+
+module _ (S : List Set) (r : ℕ) (h : All Short S) where
+  halves : layout S ≡ layout (take r S) ++ layout (drop r S)
+  halves = ap layout (sym (take-append-drop r S)) ∙ layout_append (take r S) (drop r S)
+
+  module _ (k : r < length S) where
+    front : take (33 * r) (layout S) ≡ layout (take r S)
+    front = ap (take (33 * r)) halves ∙ take_at (layout (take r S)) (layout (drop r S)) (33 * r) (front_length S r h (omega arith))
+
+    rest : drop (33 * r) (layout S) ≡ slot (at S r) ++ layout (drop (suc r) S)
+    unfolding layout
+    rest =
+        ap (drop (33 * r)) halves
+        ∙ drop_at (layout (take r S)) (layout (drop r S)) (33 * r) (front_length S r h (omega arith))
+        ∙ ap layout (drop-cons S r (only (pos 0)) k)
+
+    short : Short (at S r)
+    short = all_get Short S r (only (pos 0)) (omega arith) h
+
+    -- register r's slot
+    slot_read : take 33 (drop (33 * r) (layout S)) ≡ slot (at S r)
+    slot_read = ap (take 33) rest ∙ take_at (slot (at S r)) (layout (drop (suc r) S)) 33 (length_slot (at S r) short)
+
+    -- after it took another set
+    slot_put : (s : Set) → take (33 * r) (layout S) ++ (slot s ++ drop 33 (drop (33 * r) (layout S))) ≡ layout (set S r s)
+    unfolding layout
+    slot_put s =
+        (λ i. front i ++ (slot s ++ (ap (drop 33) rest ∙ drop_at (slot (at S r)) (layout (drop (suc r) S)) 33 (length_slot (at S r) short)) i))
+        ∙ sym (layout_append (take r S) (s ∷ drop (suc r) S))
+        ∙ ap layout (sym (set_split S r s k))
+
+-- ---- numbers that are a layout of such sets show these
+
+next_slot : (s : Set) (S : List Set) → Short s → drop 33 (layout (s ∷ S)) ≡ layout S
+unfolding layout
+next_slot s S h = drop_at (slot s) (layout S) 33 (length_slot s h)
+
+sets_back : (S : List Set) → All Short S → sets_in (length S) (layout S) ≡ S
+unfolding sets_in
+sets_back [] h = refl
+sets_back (s ∷ S) h = λ i. layout_back (s ∷ S) 0 h (omega arith) i ∷ (ap (sets_in (length S)) (next_slot s S h.0) ∙ sets_back S h.1) i
+
+sets_length : (n : ℕ) (l : List ℤ) → length (sets_in n l) ≡ n
+unfolding sets_in
+sets_length zero l = refl
+sets_length (suc n) l = ap suc (sets_length n (drop 33 l))
+
+zero_sized : Sized (only (pos 0))
+zero_sized = record { normal = zero_normal; filled = omega arith; few = omega arith }
+
+shorts : (S : List Set) → All Sized S → All Short S
+shorts S h = all_map Sized Short (λ s z. z.few) S h
+
+module _ {l : List ℤ} (S : List Set) (n : length S ≡ registers) (h : All Sized S) (e : l ≡ layout S) where
+  pub sets_are : sets_in registers l ≡ S
+  sets_are = (λ i. sets_in (sym n i) (e i)) ∙ sets_back S (shorts S h)
+
+  pub slots : Slots l
+  slots = record { is = e ∙ ap layout (sym sets_are); each = rw sets_are (λ r. all_get Sized S r (only (pos 0)) zero_sized h) }
+
+-- ---- a slot written and read
+
+slot_count : (s : Set) {x : List ℤ} → x ≡ slot s → slice_index_or x 0 (pos 0) ≡ pos (length s)
+unfolding slot
+slot_count s e = ap (λ (l : List ℤ). slice_index_or l 0 (pos 0)) e
+
+slot_ends : (s : Set) {x : List ℤ} {n : ℕ} → x ≡ slot s → n ≡ length s → take (1 + 2 * n - 1) (drop 1 x) ≡ flat s
+unfolding slot
+slot_ends s {x} {n} e m =
+    ap (λ (l : List ℤ). take (1 + 2 * n - 1) (drop 1 l)) e
+    ∙ take_at (flat s) (replicate (32 - length (flat s)) (pos 0)) (1 + 2 * n - 1) (omega (arith, length_flat s, m))
+
+-- a store at the front and a copy behind it
+pub slot_stored : (out : List ℤ) (a : ℤ) {ends : List ℤ} → length out ≡ 33 → put_mid 1 (length (slice_set out 0 a) - 1) (slice_set out 0 a) ends ≡ a ∷ ends
+slot_stored [] a n = absurd (omega arith)
+slot_stored (x ∷ out) a {ends} n =
+    let m : length (x ∷ out) - 1 ≡ length out = omega arith in
+    ap (λ (m : ℕ). a ∷ (ends ++ drop m out)) m ∙ ap (λ (l : List ℤ). a ∷ (ends ++ l)) (drop-length out) ∙ ap (λ (l : List ℤ). a ∷ l) (append-nil ends)
+
+pub held_slot : {count : ℕ} {ends : List ℤ} → Held count ends → pos count ∷ ends ≡ slot (shown count ends)
+unfolding slot padded
+held_slot h = λ i. pos (h.counted i) ∷ h.is i
+
+-- ---- the start
+
+-- the numbers so far are the slots of one set
+pub start_more : (s : Set) (r : ℕ) (l new : List ℤ) → Sized s → take (33 * r) l ≡ layout (replicate r s) → 33 * r + 33 ≤ length l → new ≡ slot s
+    → take (33 * (r + 1)) (put_mid (33 * r) (33 * (r + 1) - 33 * r) l new) ≡ layout (replicate (r + 1) s)
+unfolding layout
+start_more s r l new z e b n =
+    take-put_mid (33 * r) (33 * (r + 1) - 33 * r) l new (33 * (r + 1)) (omega (arith, ap length n, length_slot s z.few)) (omega arith)
+    ∙ (λ i. e i ++ (n ∙ sym (append-nil (slot s))) i)
+    ∙ sym (layout_append (replicate r s) (s ∷ []))
+    ∙ ap layout (replicate-append-replicate r 1 s)
+
+module _ {s : Set} (z : Sized s) {r : ℕ} (l : List ℤ) (n : length l ≡ sets_need) (m : r ≡ registers) (e : take (33 * r) l ≡ layout (replicate r s)) where
+  started : l ≡ layout (replicate registers s)
+  started = sym (take_all (33 * r) l (omega arith)) ∙ e ∙ ap (λ (r : ℕ). layout (replicate r s)) m
+
+  pub start_slots : Slots l
+  start_slots = slots (replicate registers s) (length-replicate registers s) (all_replicate Sized registers s z) started
+
+  pub start_is : sets_in registers l ≡ replicate registers s
+  start_is = sets_are (replicate registers s) (length-replicate registers s) (all_replicate Sized registers s z) started
+
+-- ---- a register's slot
+
+module _ {l : List ℤ} (h : Slots l) where
+  sized : All Sized (sets_in registers l)
+  sized = all_from Sized (sets_in registers l) (only (pos 0)) (λ r _. h.each r)
+
+  module _ (r : ℕ) (k : r < registers) where
+    there : r < length (sets_in registers l)
+    there = omega (arith, sets_length registers l)
+
+    pub slot_is : mid_of (33 * r) (33 * (r + 1) - 33 * r) l ≡ slot (at (sets_in registers l) r)
+    slot_is =
+        ap (λ (n : ℕ). mid_of (33 * r) n l) (let e : 33 * (r + 1) - 33 * r ≡ 33 = omega arith in e)
+        ∙ ap (λ (x : List ℤ). take 33 (drop (33 * r) x)) h.is
+        ∙ slot_read (sets_in registers l) r (shorts (sets_in registers l) sized) there
+
+    pub slot_length : length (mid_of (33 * r) (33 * (r + 1) - 33 * r) l) ≡ 33
+    slot_length = ap length slot_is ∙ length_slot (at (sets_in registers l) r) (h.each r).few
+
+    -- its count and its ends, as the machine reads the count
+    pub few_read : length (at (sets_in registers l) r) ≤ 16
+    few_read = (h.each r).few
+
+    pub count_read : rd (slice_index_or (mid_of (33 * r) (33 * (r + 1) - 33 * r) l) 0 (pos 0)) ≡ pos (length (at (sets_in registers l) r))
+    count_read =
+        ap rd (slot_count (at (sets_in registers l) r) slot_is)
+        ∙ to_z-of_z {w = w64} (record { sfits = let few = few_read in omega arith })
+
+    pub ends_read : take (1 + 2 * nat_abs (rd (slice_index_or (mid_of (33 * r) (33 * (r + 1) - 33 * r) l) 0 (pos 0))) - 1) (drop 1 (mid_of (33 * r) (33 * (r + 1) - 33 * r) l)) ≡ flat (at (sets_in registers l) r)
+    ends_read = slot_ends (at (sets_in registers l) r) slot_is (ap nat_abs count_read)
+
+    module _ {s : Set} (z : Sized s) {new : List ℤ} (n : new ≡ slot s) where
+      given : put_mid (33 * r) (33 * (r + 1) - 33 * r) l new ≡ layout (set (sets_in registers l) r s)
+      given =
+          (λ i. put_mid (33 * r) (let e : 33 * (r + 1) - 33 * r ≡ 33 = omega arith in e i) (h.is i) (n i))
+          ∙ slot_put (sets_in registers l) r (shorts (sets_in registers l) sized) there s
+
+      set_sized : All Sized (set (sets_in registers l) r s)
+      set_sized = all_set Sized (sets_in registers l) r s z sized
+
+      set_length : length (set (sets_in registers l) r s) ≡ registers
+      set_length = length-set (sets_in registers l) r s ∙ sets_length registers l
+
+      pub give_slots : Slots (put_mid (33 * r) (33 * (r + 1) - 33 * r) l new)
+      give_slots = slots (set (sets_in registers l) r s) set_length set_sized given
+
+      pub give_is : sets_in registers (put_mid (33 * r) (33 * (r + 1) - 33 * r) l new) ≡ set (sets_in registers l) r s
+      give_is = sets_are (set (sets_in registers l) r s) set_length set_sized given

@@ -1,0 +1,71 @@
+// The sets of all registers.
+ghost use Rattle.std.proofs.Props.{props};
+ghost use Rattle.set_values.specs.Held.{Normal-prop};
+ghost use Rattle.set_values.specs.Slots.{Slots};
+
+use crate::FormSet;
+use interval::Interval;
+use limits::{REGISTERS, SETS, SLOT};
+
+// One array of all registers' numbers, register 0 first: for each how many intervals its set has, then room for their ends, 0 past them.
+#[derive(Clone, Copy, Debug, PartialEq, Eq)]
+pub struct Registers {
+    numbers: [i64; SETS],
+    ghost slots: { Slots numbers } by { Prim.hlevel (props, Normal-prop) },
+}
+
+impl Registers {
+    ghost use Rattle.std.specs.Prelude.{◌≡◌, ◌<◌, set};
+    ghost use Rattle.meaning.specs.Sheet.{registers};
+    ghost use Rattle.meaning.specs.Check.{at, start_sets, layout};
+    ghost use Rattle.set_values.specs.Slots.{sets_in};
+    ghost use Rattle.set_values.specs.Value.{set_of, sets_of};
+
+    // Each register may hold any number.
+    pub fn start() -> Registers
+        ensures { sets_of result ≡ start_sets.sets }
+    {
+        let mut numbers = [0i64; SETS];
+        let any = FormSet::from(Interval {
+            lo: i64::MIN,
+            hi: i64::MAX,
+        });
+        for r in 0..REGISTERS {
+            any.show(&mut numbers[SLOT * r..SLOT * (r + 1)]);
+        }
+        Registers { numbers }
+    }
+
+    // The sets that these numbers show.
+    pub fn of(numbers: &[i64; SETS]) -> Registers
+        requires { Slots numbers.now }
+        ensures { sets_of result ≡ sets_in registers numbers.now }
+    {
+        Registers { numbers: *numbers }
+    }
+
+    // The set of register r.
+    pub fn set(&self, r: usize) -> FormSet
+        requires { r < registers }
+        ensures { set_of result ≡ at (sets_of self.now) r }
+    {
+        let slot = &self.numbers[SLOT * r..SLOT * (r + 1)];
+        let count = slot[0] as usize;
+        FormSet::new(&slot[1..1 + 2 * count])
+    }
+
+    // Register r takes a set.
+    pub fn give(&mut self, r: usize, value: FormSet)
+        requires { r < registers }
+        ensures { sets_of self.new ≡ set (sets_of self.old) r (set_of value) }
+    {
+        value.show(&mut self.numbers[SLOT * r..SLOT * (r + 1)]);
+    }
+
+    // Writes the sets as the check lends them: for each register how many intervals, then room for their ends.
+    pub fn show(&self, out: &mut [i64; SETS])
+        ensures { out.new ≡ layout (sets_of self.now) }
+    {
+        out.copy_from_slice(&self.numbers);
+    }
+}

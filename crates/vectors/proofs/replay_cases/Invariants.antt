@@ -1,5 +1,0 @@
--- Each turn leaves fewer.
-use Rattle.vectors.proofs.replay_cases.Given as goal
-
-abbrev pub decreases-loop-turns : goal.decreases-loop-turns
-decreases-loop-turns g l = l.turns
