@@ -1,4 +1,5 @@
 // What a caller in C gets in place of the library's options and results: structs of numbers, each made from what it stands for.
+// Kept: numbers and flags in place of options, results and enums, since the C interface has no other.
 #![tactic(auto)]
 
 ghost use Rattle.std.specs.Prelude.{◌≡◌};

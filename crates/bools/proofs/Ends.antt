@@ -7,7 +7,9 @@ use Prim.Native.Nat.{suc, ◌-◌, ◌/◌, ◌%◌, ◌<◌}
 use native.Mathlib.Omega.{arith}
 use borrow.Author.Tests.{lt-ltb}
 use lib.Dec.{ltb}
-use lib.ListN.{length, get_or}
+use lib.ListN.{length, get_or, drop}
+use Rattle.std.specs.Simd.{first_chunks}
+use Rattle.writer.proofs.Pairs.{first, second, pair_at}
 use lib.IntN.{ℤ, pos}
 use Rattle.meaning.specs.Number.{eq_z}
 use Rattle.meaning.specs.Interval.{Interval}
@@ -29,13 +31,17 @@ constant_not (s ∷ e ∷ []) h = absurd (h (omega arith))
 constant_not (s ∷ e ∷ x ∷ []) h = absurd (h (omega arith))
 constant_not (s ∷ e ∷ x ∷ y ∷ r) h = refl
 
-pub constant_one : (l : List ℤ) → length l / 2 ≡ 1 → constant (intervals l) ≡ cond (eq_z (get_or l 0 (pos 0)) (get_or l 1 (pos 0))) (Some (get_or l 0 (pos 0))) None
+constant_pair : (a b : ℤ) (r : List ℤ) → length r < 2 → constant (intervals (a ∷ b ∷ r)) ≡ cond (eq_z a b) (Some a) None
 unfolding intervals
-constant_one [] h = absurd (omega arith)
-constant_one (s ∷ []) h = absurd (omega arith)
-constant_one (s ∷ e ∷ []) h = refl
-constant_one (s ∷ e ∷ x ∷ []) h = refl
-constant_one (s ∷ e ∷ x ∷ y ∷ r) h = absurd (omega arith)
+constant_pair a b [] h = refl
+constant_pair a b (x ∷ []) h = refl
+constant_pair a b (x ∷ y ∷ r) h = absurd (omega arith)
+
+-- the ends of the one interval, as the only chunk has them
+pub constant_one : (l : List ℤ) {x : List (List ℤ)} → x ≡ first_chunks 2 (length l / 2) l → length l / 2 ≡ 1 → constant (intervals l) ≡ cond (eq_z (first x 0) (second x 0)) (Some (first x 0)) None
+constant_one l {x} e h =
+    let turn = pair_at l 0 e (omega (arith, h)) in
+    ap (λ (m : List ℤ). constant (intervals m)) turn ∙ constant_pair (first x 0) (second x 0) (drop 2 l) (omega (arith, h, ap length turn))
 
 -- ---- the first start and the last end
 

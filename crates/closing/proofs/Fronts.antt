@@ -1,11 +1,11 @@
 -- The loop of `close`: the front holds the intervals read so far, closed to the limit; one more interval closes one gap (`shrink`). Assumes nothing.
-use mathlib.Core.Path.{◌≡◌, refl, sym, ap, ◌∙◌}
+use mathlib.Core.Path.{◌≡◌, refl, sym, ap, subst, ◌∙◌}
 use mathlib.Core.Bool.{true}
 use mathlib.Core.List.{List, [], ◌∷◌, ◌++◌, append_assoc}
 use Prim.Native.Nat.{ℕ, suc, ◌+◌, ◌-◌, ◌*◌, ◌/◌, ◌%◌, ◌≤◌, ◌<◌}
 use native.Mathlib.Omega.{arith}
 use lib.ListN.{length, get_or, set, take, drop, length-append, length-drop, take-append-drop, drop_of_length-le}
-use lib.Seq.{slice, slice_empty, length-slice, length-take-le, take-take, take-suc, take_at, get_or-drop, get_or_at, set_at, take-append-le, drop-append-le, drop_at, take_all, paste}
+use lib.Seq.{length-take-le, take-suc, take_at, get_or-drop, get_or_at, set_at, take-append-le, drop-append-le, drop_at, take_all, paste}
 use lib.IntN.{ℤ, pos, suc_ℤ}
 use native.Mathlib.Numerals.{add-one}
 use lib.Signed.{◌<ℤ◌}
@@ -15,8 +15,8 @@ use Rattle.std.specs.Prelude.{Option, None, Some}
 use Rattle.meaning.specs.NumberIntervals.{Set, Normal, flat, intervals}
 use Rattle.laws.proofs.Flat.{even_flat, length_intervals}
 use Rattle.sorting.specs.Order.{put_pair}
-use Rattle.sorting.proofs.Chunks.{front_pair}
-use Rattle.sorting.proofs.Steps.{end_at, slice_two, drop_later}
+use Rattle.sorting.proofs.Chunks.{pair_at}
+use Rattle.sorting.proofs.Steps.{end_at, drop_two}
 use Rattle.laws.proofs.Integers.{by_test, and_yes}
 use Rattle.meaning.specs.Close.{missing, close}
 use Rattle.closing.specs.declared.Gap.{Gap}
@@ -106,20 +106,19 @@ pub gaps_are : (l : List ℤ) (m : ℕ) → length l ≡ m → take (m - 1 - 1) 
 gaps_are l m h = let e : m - 1 - 1 ≡ length l - 2 = omega arith in ap (λ (k : ℕ). take k (drop 1 l)) e
 
 -- t: the ends of the set closed. Before a turn the intervals from k on are left, `left` of them, and as many gaps are to be closed
-pub record Fronts (t : List ℤ) (n : ℕ) (old front : List ℤ) (k : ℕ) : Type 0 where
+pub record Fronts (t old front : List ℤ) (k : ℕ) : Type 0 where
   pub first : ℤ
   pub last : ℤ
   pub left : ℕ
-  pub fits : n ≤ length old
   pub some : 2 ≤ length front
   pub even : length front % 2 ≡ 0
-  pub read : k + 2 * left ≡ n
+  pub read : k + 2 * left ≡ length old
   pub is : front ≡ first ∷ gaps_of front ++ last ∷ []
   pub wide : Open (gaps_of front)
-  pub next : Open (last ∷ slice k n old)
-  pub so_far : first ∷ thin_by left (gaps_of front ++ last ∷ slice k n old) ≡ t
+  pub next : Open (last ∷ drop k old)
+  pub so_far : first ∷ thin_by left (gaps_of front ++ last ∷ drop k old) ≡ t
 
-module _ {t : List ℤ} {n : ℕ} {old front : List ℤ} {k : ℕ} (f : Fronts t n old front k) where
+module _ {t old front : List ℤ} {k : ℕ} (f : Fronts t old front k) where
   abbrev gaps : List ℤ
   gaps = gaps_of front
 
@@ -132,7 +131,7 @@ module _ {t : List ℤ} {n : ℕ} {old front : List ℤ} {k : ℕ} (f : Fronts t
   pub last_is : end_at front (length front - 1) ≡ f.last
   last_is = last_front front f.first f.last gaps f.is
 
-  module _ (h : k + 2 ≤ n) where
+  module _ (h : k + 2 ≤ length old) where
     abbrev s : ℤ
     s = end_at old k
 
@@ -140,10 +139,10 @@ module _ {t : List ℤ} {n : ℕ} {old front : List ℤ} {k : ℕ} (f : Fronts t
     e = end_at old (k + 1)
 
     abbrev rest : List ℤ
-    rest = slice (k + 2) n old
+    rest = drop (k + 2) old
 
-    next_two : slice k n old ≡ s ∷ e ∷ rest
-    next_two = slice_two k n old h f.fits
+    next_two : drop k old ≡ s ∷ e ∷ rest
+    next_two = drop_two old k h
 
     opens : Open (f.last ∷ s ∷ e ∷ rest)
     opens = rw next_two at f.next
@@ -158,14 +157,14 @@ module _ {t : List ℤ} {n : ℕ} {old front : List ℤ} {k : ℕ} (f : Fronts t
     more_length : length more ≡ length front
     more_length = length-append gaps (f.last ∷ s ∷ []) ∙ omega (arith, gaps_size, f.some)
 
-    shrunk : thin_by f.left (gaps ++ f.last ∷ slice k n old) ≡ thin_by (f.left - 1) (thin more ++ e ∷ rest)
+    shrunk : thin_by f.left (gaps ++ f.last ∷ drop k old) ≡ thin_by (f.left - 1) (thin more ++ e ∷ rest)
     shrunk =
         let q : f.left ≡ suc (f.left - 1) = omega (arith, f.read) in
-        let w : gaps ++ f.last ∷ slice k n old ≡ more ++ e ∷ rest = ap (λ (x : List ℤ). gaps ++ f.last ∷ x) next_two ∙ sym (append_assoc gaps (f.last ∷ s ∷ []) (e ∷ rest)) in
+        let w : gaps ++ f.last ∷ drop k old ≡ more ++ e ∷ rest = ap (λ (x : List ℤ). gaps ++ f.last ∷ x) next_two ∙ sym (append_assoc gaps (f.last ∷ s ∷ []) (e ∷ rest)) in
         (λ i. thin_by (q i) (w i))
-        ∙ shrink (f.left - 1) more (e ∷ rest) (rw more_length f.even) (omega (arith, length-slice (k + 2) n old f.fits, f.read))
+        ∙ shrink (f.left - 1) more (e ∷ rest) (rw more_length f.even) (omega (arith, length-drop (k + 2) old, f.read))
 
-    fronts_make : (new p : List ℤ) → thin more ≡ p → new ≡ f.first ∷ p ++ e ∷ [] → Fronts t n old new (k + 2) × (length new ≡ length front)
+    fronts_make : (new p : List ℤ) → thin more ≡ p → new ≡ f.first ∷ p ++ e ∷ [] → Fronts t old new (k + 2) × (length new ≡ length front)
     fronts_make new p w u =
         let size : length p + 2 ≡ length front = sym (ap (λ (x : List ℤ). length x + 2) w) ∙ thin_length more (omega (arith, more_length, f.some)) ∙ more_length in
         let same : length new ≡ length front = ap length u ∙ omega (arith, size, length-append p (e ∷ [])) in
@@ -175,7 +174,6 @@ module _ {t : List ℤ} {n : ℕ} {old front : List ℤ} {k : ℕ} (f : Fronts t
             first = f.first;
             last = e;
             left = f.left - 1;
-            fits = f.fits;
             some = omega (arith, same, f.some);
             even = rw same f.even;
             read = omega (arith, f.read);
@@ -194,7 +192,7 @@ module _ {t : List ℤ} {n : ℕ} {old front : List ℤ} {k : ℕ} (f : Fronts t
           let n : length front - 1 ≡ length (f.first ∷ gaps) = omega (arith, gaps_size, f.some) in
           ap (λ (x : List ℤ). set x (length front - 1) e) f.is ∙ set_at (f.first ∷ gaps) f.last [] e (length front - 1) (sym n)
 
-      pub fronts_near : Fronts t n old (set front (length front - 1) (end_at old (k + 1))) (k + 2)
+      pub fronts_near : Fronts t old (set front (length front - 1) (end_at old (k + 1))) (k + 2)
       fronts_near = (fronts_make (set front (length front - 1) e) gaps (thin_new gaps f.last s gaps_even (rw last_is at u)) near_is).0
 
       pub gaps_near : gaps_of (set front (length front - 1) (end_at old (k + 1))) ≡ gaps_of front
@@ -221,7 +219,7 @@ module _ {t : List ℤ} {n : ℕ} {old front : List ℤ} {k : ℕ} (f : Fronts t
       thinned : thin more ≡ (take at gaps ++ drop (at + 2) gaps) ++ f.last ∷ s ∷ []
       thinned = thin_old gaps f.last s gaps_even l (rw last_is at q)
 
-      pub fronts_far : Fronts t n old (pushed at (end_at old k) (end_at old (k + 1)) front) (k + 2)
+      pub fronts_far : Fronts t old (pushed at (end_at old k) (end_at old (k + 1)) front) (k + 2)
       fronts_far = (fronts_make (pushed at s e front) ((take at gaps ++ drop (at + 2) gaps) ++ f.last ∷ s ∷ []) thinned far_is).0
 
       -- no gap of the new front has fewer missing numbers than the one that went
@@ -240,123 +238,114 @@ fewer p x (Some g) l u = at_least_less p (omega (arith, u)) l.under
 
 -- a turn in which the next interval's own gap has fewer missing numbers
 pub near_turn
-    : {t : List ℤ} {n : ℕ} {old front : List ℤ} {k : ℕ} → Fronts t n old front k → k + 2 ≤ n → (gap : Option Gap) → Known (gaps_of front) gap
+    : {t old front : List ℤ} {k : ℕ} → Fronts t old front k → k + 2 ≤ length old → (gap : Option Gap) → Known (gaps_of front) gap
     → MatchOption gap (Unit {0}) (λ g. missing (end_at front (length front - 1)) (end_at old k) < g.missing)
-    → Fronts t n old (set front (length front - 1) (end_at old (k + 1))) (k + 2) × Known (gaps_of (set front (length front - 1) (end_at old (k + 1)))) gap
+    → Fronts t old (set front (length front - 1) (end_at old (k + 1))) (k + 2) × Known (gaps_of (set front (length front - 1) (end_at old (k + 1)))) gap
 near_turn f h gap l u =
     let v = fewer _ _ gap l u in
     (fronts_near f h v, rw (gaps_near f h v) l)
 
 -- or in which the least gap of the front has no more
 pub far_turn
-    : {t : List ℤ} {n : ℕ} {old front : List ℤ} {k at least : ℕ} → Fronts t n old front k → k + 2 ≤ n → Lowest (gaps_of front) at least
+    : {t old front : List ℤ} {k at least : ℕ} → Fronts t old front k → k + 2 ≤ length old → Lowest (gaps_of front) at least
     → least ≤ missing (end_at front (length front - 1)) (end_at old k) → (new : List ℤ) → new ≡ pushed at (end_at old k) (end_at old (k + 1)) front
-    → (length new ≡ length front) × Fronts t n old new (k + 2) × (at_least least (gaps_of new) ≡ true)
+    → (length new ≡ length front) × Fronts t old new (k + 2) × (at_least least (gaps_of new) ≡ true)
 far_turn {front = front} {at = at} f h l q new e =
     rw e (pushed_length front at _ _ (spot_fits f h l q), fronts_far f h l q, far_floor f h l q)
 
 -- the interval of a turn, as it is read behind the front
-pub record Next (old : List ℤ) (n k : ℕ) (pair : List ℤ) : Type 0 where
+pub record Next (old : List ℤ) (k : ℕ) (pair : List ℤ) : Type 0 where
   pub start : get_or pair 0 (pos 0) ≡ end_at old k
   pub end : get_or pair 1 (pos 0) ≡ end_at old (k + 1)
-  pub room : k + 2 ≤ n
+  pub room : k + 2 ≤ length old
 
 pub next_at
-    : (old rest : List ℤ) (n m i : ℕ) (pairs : List (List ℤ)) → rest ≡ drop m old → n ≤ length old → m ≤ n
-    → pairs ≡ first_chunks 2 (length (take (n - m) rest) / 2) (take (n - m) rest) → i < length pairs → length pairs ≡ length (take (n - m) rest) / 2
-    → Next old n (m + 2 * i) (get_or pairs i [])
-next_at old rest n m i pairs e r h p j c =
-    let f = front_pair (n - m) i rest [] (omega (arith, ap length e, length-drop m old)) (omega arith) in
-    let g = ap (λ (x : List (List ℤ)). get_or x i []) p ∙ f.0 in
+    : (old rest : List ℤ) (m i : ℕ) (pairs : List (List ℤ)) → rest ≡ drop m old → m ≤ length old
+    → pairs ≡ first_chunks 2 (length rest / 2) rest → i < length pairs → length pairs ≡ length rest / 2
+    → Next old (m + 2 * i) (get_or pairs i [])
+next_at old rest m i pairs e h p j c =
+    let g = ap (λ (x : List (List ℤ)). get_or x i []) p ∙ pair_at (length rest / 2) i rest [] (omega arith) (omega arith) in
     let z : m + (2 * i + 1) ≡ m + 2 * i + 1 = omega arith in
     record {
       start = ap (λ (x : List ℤ). get_or x 0 (pos 0)) g ∙ ap (λ (x : List ℤ). end_at x (2 * i)) e ∙ get_or-drop m old (2 * i) (pos 0);
       end = ap (λ (x : List ℤ). get_or x 1 (pos 0)) g ∙ ap (λ (x : List ℤ). end_at x (2 * i + 1)) e ∙ get_or-drop m old (2 * i + 1) (pos 0) ∙ ap (end_at old) z;
-      room = omega (arith, f.1);
+      room = omega (arith, ap length e, length-drop m old);
     }
 
 -- ---- the whole call
 
-abbrev pub closed_ends : ℕ → ℕ → List ℤ → List ℤ
-closed_ends limit n old = flat (close limit (intervals (take n old)))
+abbrev pub closed_ends : ℕ → List ℤ → List ℤ
+closed_ends limit old = flat (close limit (intervals old))
 
-module _ (limit n : ℕ) (old : List ℤ) (x : Ends n old) where
+module _ (limit : ℕ) (old : List ℤ) (x : Ends old) where
   abbrev whole : Set
-  whole = intervals (take n old)
+  whole = intervals old
 
   abbrev answer : List ℤ
-  answer = closed_ends limit n old
+  answer = closed_ends limit old
 
-  whole_length : length whole ≡ n / 2
-  whole_length = length_intervals (take n old) ∙ ap (λ (k : ℕ). k / 2) (length-take-le n old x.room)
+  whole_length : length whole ≡ length old / 2
+  whole_length = length_intervals old
 
-  whole_flat : flat whole ≡ take n old
-  whole_flat = even_flat (take n old) (rw (length-take-le n old x.room) x.even)
+  whole_flat : flat whole ≡ old
+  whole_flat = even_flat old x.even
 
-  answer_is : answer ≡ behind (thin_by (n / 2 - limit)) (take n old)
+  answer_is : answer ≡ behind (thin_by (length old / 2 - limit)) old
   unfolding close
   answer_is = flat_gaps (length whole - limit) whole ∙ λ i. behind (thin_by (whole_length i - limit)) (whole_flat i)
 
   -- few enough already
-  pub closed_few : n / 2 ≤ limit → Closed limit n old old n
+  pub closed_few : length old / 2 ≤ limit → Closed limit old old (length old)
   unfolding thin_by behind
   closed_few h =
-      let z : n / 2 - limit ≡ 0 = omega arith in
-      let same : answer ≡ take n old = answer_is ∙ rw z (nothing (take n old)) in
-      record { count = sym (ap length same ∙ length-take-le n old x.room); room = omega arith; front = sym same; rest = refl }
+      let z : length old / 2 - limit ≡ 0 = omega arith in
+      let same : answer ≡ old = answer_is ∙ rw z (nothing old) in
+      record { count = sym (ap length same); room = omega arith; front = take_all (length old) old (omega arith) ∙ sym same }
     where
       nothing : (l : List ℤ) → behind (thin_by 0) l ≡ l
       nothing [] = refl
       nothing (a ∷ l) = refl
 
-  module _ (m : ℕ) (d : m ≡ 2 * limit) (o : 1 ≤ limit) (h : limit < n / 2) where
+  module _ (m : ℕ) (d : m ≡ 2 * limit) (o : 1 ≤ limit) (h : limit < length old / 2) where
     abbrev front : List ℤ
     front = take m old
 
     front_length : length front ≡ m
-    front_length = length-take-le m old (omega (arith, x.even, x.room))
+    front_length = length-take-le m old (omega (arith, x.even))
 
-    splits : take n old ≡ end_at front 0 ∷ gaps_of front ++ end_at front (length front - 1) ∷ slice m n old
+    splits : old ≡ end_at front 0 ∷ gaps_of front ++ end_at front (length front - 1) ∷ drop m old
     splits =
-        sym (take-append-drop m (take n old))
-        ∙ ap (λ (y : List ℤ). y ++ slice m n old) (take-take m n old (omega (arith, x.even)) ∙ front_split front (omega (arith, front_length)))
-        ∙ ap (λ (y : List ℤ). end_at front 0 ∷ y) (append_assoc (gaps_of front) (end_at front (length front - 1) ∷ []) (slice m n old))
+        sym (take-append-drop m old)
+        ∙ ap (λ (y : List ℤ). y ++ drop m old) (front_split front (omega (arith, front_length)))
+        ∙ ap (λ (y : List ℤ). end_at front 0 ∷ y) (append_assoc (gaps_of front) (end_at front (length front - 1) ∷ []) (drop m old))
 
-    opens_all : Open (gaps_of front) × Open (end_at front (length front - 1) ∷ slice m n old)
+    opens_all : Open (gaps_of front) × Open (end_at front (length front - 1) ∷ drop m old)
     opens_all =
-        let w : Open (drop 1 (take n old)) = rw whole_flat at (open_flat whole x.normal) in
-        open_split (gaps_of front) (end_at front (length front - 1) ∷ slice m n old)
+        let w : Open (drop 1 old) = rw whole_flat at (open_flat whole x.normal) in
+        open_split (gaps_of front) (end_at front (length front - 1) ∷ drop m old)
         (let z = length-take-le (length front - 2) (drop 1 front) (omega (arith, length-drop 1 front)) in rw z (omega (arith, front_length)))
-        (rw splits at w)
+        (subst (λ (y : List ℤ). Open (drop 1 y)) splits w)
 
-    pub fronts_start : Fronts answer n old (take m old) m
+    pub fronts_start : Fronts answer old (take m old) m
     unfolding behind
     fronts_start =
         record {
           first = end_at front 0;
           last = end_at front (length front - 1);
-          left = n / 2 - limit;
-          fits = x.room;
+          left = length old / 2 - limit;
           some = omega (arith, front_length);
           even = omega (arith, front_length);
           read = omega (arith, x.even);
           is = front_split front (omega (arith, front_length));
           wide = opens_all.0;
           next = opens_all.1;
-          so_far = sym (answer_is ∙ ap (behind (thin_by (n / 2 - limit))) splits);
+          so_far = sym (answer_is ∙ ap (behind (thin_by (length old / 2 - limit))) splits);
         }
 
-    pub fronts_done : {front : List ℤ} {k : ℕ} → Fronts answer n old front k → n ≤ k → length front ≡ m → (new : List ℤ) → new ≡ front ++ drop m old → Closed limit n old new m
+    pub fronts_done : {front : List ℤ} {k : ℕ} → Fronts answer old front k → length old ≤ k → length front ≡ m → (new : List ℤ) → new ≡ front ++ drop m old → Closed limit old new m
     unfolding thin_by
     fronts_done {front} {k} f q r new w =
         let z : f.left ≡ 0 = omega (arith, f.read) in
-        let y : k ≡ n = omega (arith, f.read) in
-        let none : slice k n old ≡ [] = rw y (slice_empty n old) in
+        let none : drop k old ≡ [] = drop_of_length-le old q in
         let same : front ≡ answer = f.is ∙ rw (z, none) at f.so_far in
-        let p : take m new ≡ front = ap (take m) w ∙ take_at front (drop m old) m r in
-        record {
-          count = sym r ∙ ap length same;
-          room = omega (arith, x.even);
-          front = p ∙ same;
-          rest = drop_later new old m n (ap (drop m) w ∙ drop_at front (drop m old) m r) (omega (arith, x.even));
-        }
+        record { count = sym r ∙ ap length same; room = omega (arith, x.even); front = ap (take m) w ∙ take_at front (drop m old) m r ∙ same }

@@ -37,15 +37,13 @@ pub record Lowest (p : List ℤ) (at least : ℕ) : Type 0 where
 abbrev pub pushed : ℕ → ℤ → ℤ → List ℤ → List ℤ
 pushed at s e l = take (at + 1) l ++ (drop (at + 3) l ++ s ∷ e ∷ [])
 
--- the first n numbers are the ends of a normal set
-pub record Ends (n : ℕ) (l : List ℤ) : Type 0 where
-  pub room : n ≤ length l
-  pub even : n % 2 ≡ 0
-  pub normal : Normal (intervals (take n l))
+-- l is the ends of a normal set
+pub record Ends (l : List ℤ) : Type 0 where
+  pub even : length l % 2 ≡ 0
+  pub normal : Normal (intervals l)
 
--- the first r numbers are the first n closed to the limit; what stands between r and n is left open, and from n on nothing is changed
-pub record Closed (limit n : ℕ) (old new : List ℤ) (r : ℕ) : Type 0 where
-  pub count : r ≡ length (flat (close limit (intervals (take n old))))
-  pub room : r ≤ n
-  pub front : take r new ≡ flat (close limit (intervals (take n old)))
-  pub rest : drop n new ≡ drop n old
+-- the first r numbers are the set closed to the limit; what stands behind them is left open
+pub record Closed (limit : ℕ) (old new : List ℤ) (r : ℕ) : Type 0 where
+  pub count : r ≡ length (flat (close limit (intervals old)))
+  pub room : r ≤ length old
+  pub front : take r new ≡ flat (close limit (intervals old))

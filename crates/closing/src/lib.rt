@@ -56,18 +56,20 @@ fn push(front: &mut [i64], at: usize, s: i64, e: i64)
     put_pair(front, m - 2, s, e);
 }
 
-// The first n numbers, the ends of a normal set, are closed to the limit; returns how many numbers that leaves. What stands from there to n is left open.
-pub fn close(work: &mut [i64], n: usize, limit: usize) -> usize
-    requires { (1 ≤ limit) × Ends n work.old }
-    ensures { Closed limit n work.old work.new result }
+// The ends of a normal set are closed to the limit; returns how many numbers that leaves, at the front. What stands behind them is left open.
+// Kept: it works in place on what stands in the slice, since nothing is on the heap.
+pub fn close(ends: &mut [i64], limit: usize) -> usize
+    requires { (1 ≤ limit) × Ends ends.old }
+    ensures { Closed limit ends.old ends.new result }
 {
+    let n = ends.len();
     if n / 2 <= limit {
         return n;
     }
     let m = 2 * limit;
-    let (front, rest) = work.split_at_mut(m);
+    let (front, rest) = ends.split_at_mut(m);
     let mut gap = least_gap(&front[1..m - 1], 0);
-    for &[s, e] in rest[..n - m].as_chunks::<2>().0 {
+    for &[s, e] in rest.as_chunks::<2>().0 {
         match gap {
             Some(least) if least.missing <= missing(front[m - 1], s) => {
                 push(front, least.at, s, e);

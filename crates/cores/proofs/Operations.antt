@@ -2,13 +2,13 @@
 use mathlib.Core.Path.{◌≡◌, refl, ap, ◌∙◌}
 use mathlib.Core.Bool.{Bool, false}
 use mathlib.Core.List.{List, [], ◌∷◌, ◌++◌, append-nil}
-use Prim.Native.Nat.{ℕ, ◌*◌, ◌≤◌}
+use Prim.Native.Nat.{◌*◌, ◌≤◌}
 use native.Mathlib.Omega.{arith}
 use lib.ListN.{length, replicate}
 use lib.IntN.{ℤ, pos}
 use Rattle.meaning.specs.Number.{Op1}
 use Rattle.meaning.specs.Interval.{Interval, Proper, each, neg_pair, abs_pair}
-use Rattle.meaning.specs.NumberIntervals.{Set, rebuild, each_pair, of_bools, set1, set2, flag1, flag2, intervals, normal}
+use Rattle.meaning.specs.NumberIntervals.{Set, rebuild, each_pair, of_bools, set1, set2, flag1, flag2, flat, intervals, normal}
 use Rattle.meaning.specs.SetCalls.{factor1, factor2}
 use Rattle.laws.proofs.Members.{AllProper}
 use Rattle.laws.proofs.Flat.{length_flat}
@@ -19,12 +19,11 @@ use Rattle.laws.proofs.Sums.{add_proper, sub_proper}
 use Rattle.laws.proofs.Products.{mul_proper}
 use Rattle.laws.proofs.Quotients.{div_proper}
 use Rattle.laws.proofs.Remainders.{rem_proper}
-use Rattle.slices.specs.Wrote.{Wrote}
 use Rattle.cores.specs.declared.Op.{Op}
 use Rattle.cores.specs.declared.Op.TheVariants.{Neg, Abs, Add, Sub, Mul, Div, Rem}
 use Rattle.cores.specs.declared.Relation.{Relation}
 use Rattle.cores.specs.declared.Relation.TheVariants.{Le, Lt, Ne, And, Or}
-use Rattle.sets.specs.Sets.{Argument}
+use Rattle.sets.specs.Sets.{SetEnds}
 use Rattle.cores.specs.Operation.{rule_of, factor_of, set_of, flag_of, op2_of, relation_of, Alone, neg_alone, abs_alone}
 
 pub few : (o : Op) (s e t f : ℤ) → Proper s e → Proper t f → length (rule_of o s e t f) ≤ factor_of o
@@ -66,13 +65,9 @@ set_is Mul a b = refl
 set_is Div a b = refl
 set_is Rem a b = refl
 
--- the room that an operation asks, by its name
-pub room_is : {o p : Op} → o ≡ p → {n : ℕ} → 2 * factor_of o ≤ n → 2 * factor_of p ≤ n
-room_is e h = rw e at h
-
 -- a pair's results take no more numbers than are kept free for them
-pub pair_few : (o : Op) {s e t f : ℤ} {r : ℕ} {new old : List ℤ} → Wrote r (rule_of o s e t f) new old → Proper s e → Proper t f → r ≤ 2 * factor_of o
-pair_few o {s} {e} {t} {f} w p q = omega (arith, w.count, length_flat (rule_of o s e t f), few o s e t f p q)
+pub pair_few : (o : Op) {s e t f : ℤ} → Proper s e → Proper t f → length (flat (rule_of o s e t f)) ≤ 2 * factor_of o
+pair_few o {s} {e} {t} {f} p q = omega (arith, length_flat (rule_of o s e t f), few o s e t f p q)
 
 -- ---- an operation whose answer is 0, 1000 or both: no flag, and no need of work
 
@@ -91,9 +86,9 @@ unfolding each intervals
 each_once g [] = refl
 each_once g (i ∷ a) = ap (λ (l : List Interval). l ++ each (λ s e. g s e ++ []) a) (append-nil (g i.lo i.hi)) ∙ ap (λ (l : List Interval). g i.lo i.hi ++ l) (each_once g a)
 
-pub zero_argument : Argument (replicate 2 (pos 0))
+pub zero_ends : SetEnds (replicate 2 (pos 0))
 unfolding normal intervals
-zero_argument = record { set = record { test = refl; is = zero_normal }; few = omega arith }
+zero_ends = record { test = refl; is = zero_normal }
 
 pub alone_is : {o : Op} {p : Op1} → Alone o p → (flag : Bool) (a b : Set) → (set_of o a (intervals (replicate 2 (pos 0))) ≡ set1 p a) × (flag_of o flag a b ≡ flag1 p flag) × (factor_of o ≡ factor1 p)
 unfolding set1

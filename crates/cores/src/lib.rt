@@ -1,20 +1,21 @@
-// The operations on whole sets, as one core: the results of all pairs are written from the first free place of the work slice onward, and joined there. The
+// The operations on whole sets, as one core: the results of all pairs are written one behind the other from the front of the work slice, and joined there. The
 // joined set stays at the front of the work slice. Special are a set without intervals, which has no pairs, a divisor that holds 0, which sets the flag, and
 // an operation on one set, whose rule is asked once for each interval: its right set is one interval that the rule does not read.
 #![tactic(auto)]
 
-ghost use Rattle.std.specs.Prelude.{◌≡◌, ◌||◌, ◌*◌, ◌/◌, ◌≤◌, length};
+ghost use Rattle.std.specs.Prelude.{◌≡◌, ◌||◌, ◌+◌, ◌*◌, ◌/◌, ◌≤◌, length};
 ghost use Rattle.meaning.specs.Interval.{each};
 ghost use Rattle.meaning.specs.NumberIntervals.{each_pair, intervals, zero_found};
 ghost use Rattle.meaning.specs.SetCalls.{need2};
-ghost use Rattle.laws.proofs.Members.{AllProper};
-ghost use Rattle.slices.specs.Wrote.{Wrote};
-ghost use Rattle.sets.specs.Sets.{Argument};
+ghost use Rattle.slices.specs.Adds.{Adds};
 ghost use Rattle.cores.specs.Cored.{Cored};
 ghost use Rattle.cores.specs.Operation.{rule_of, factor_of, set_of, flag_of};
 
 use interval::Interval;
+use replies::Written;
 use rule::pair;
+use sets::{Ends, Operand};
+use writer::Writer;
 
 pub mod rule;
 
@@ -40,13 +41,6 @@ pub enum Relation {
     Or,
 }
 
-// How many numbers the joined set has, and its flag.
-#[derive(Clone, Copy, Debug, PartialEq, Eq)]
-pub struct Core {
-    pub count: usize,
-    pub flag: bool,
-}
-
 // The flag of a division: the left set's flag, or a zero found in the divisor with a nonempty left set.
 fn zero_flag(left: &[i64], flag: bool, right: &[i64]) -> bool
     ensures { result ≡ (flag || zero_found (intervals left.now) (intervals right.now)) }
@@ -55,6 +49,7 @@ fn zero_flag(left: &[i64], flag: bool, right: &[i64]) -> bool
 }
 
 // The flag of an operation: only a division looks for a zero.
+// Kept: a match by the operation's name, as the meaning defines it: a table would be no plainer.
 #[tactic(auto, unfolding(meaning::specs::NumberIntervals::flag1, meaning::specs::NumberIntervals::flag2))]
 fn flag_of(op: Op, left: &[i64], flag: bool, right: &[i64]) -> bool
     ensures { result ≡ flag_of op flag (intervals left.now) (intervals right.now) }
@@ -65,44 +60,39 @@ fn flag_of(op: Op, left: &[i64], flag: bool, right: &[i64]) -> bool
     }
 }
 
-// left with each interval of right, one after the other.
-fn row(op: Op, out: &mut [i64], left: Interval, right: &[i64]) -> usize
-    requires { (2 * factor_of op * (length right.now / 2) ≤ length out.old) × AllProper (intervals right.now) }
-    ensures { Wrote result (each (rule_of op left.lo left.hi) (intervals right.now)) out.new out.old }
+// left with each interval of right, one after the other: each pair is lent the unused tail of the work slice.
+fn row(op: Op, out: &mut Writer<i64>, left: Interval, right: Ends)
+    requires { out.old.len + 2 * factor_of op * (length right.numbers.now / 2) ≤ length out.old.room.now }
+    ensures { Adds (each (rule_of op left.lo left.hi) (intervals right.entry.numbers.now)) out.new out.old }
 {
-    let mut at = 0;
-    for j in 0..right.len() / 2 {
-        let lo = right[2 * j];
-        let hi = right[2 * j + 1];
-        let r = pair(op, &mut out[at..], left, Interval { lo, hi });
-        at += r;
+    for &[lo, hi] in right.numbers.as_chunks::<2>().0 {
+        let count = pair(op, &mut out.room[out.len..], left, Interval { lo, hi });
+        out.len += count;
     }
-    at
 }
 
 // Each interval of left with each of right.
-fn all(op: Op, work: &mut [i64], left: &[i64], right: &[i64]) -> usize
-    requires { (2 * factor_of op * (length right.now / 2) * (length left.now / 2) ≤ length work.old) × AllProper (intervals right.now) × AllProper (intervals left.now) }
-    ensures { Wrote result (each_pair (rule_of op) (intervals left.now) (intervals right.now)) work.new work.old }
+fn all(op: Op, out: &mut Writer<i64>, left: Ends, right: Ends)
+    requires { out.old.len + 2 * factor_of op * (length right.numbers.now / 2) * (length left.numbers.now / 2) ≤ length out.old.room.now }
+    ensures { Adds (each_pair (rule_of op) (intervals left.entry.numbers.now) (intervals right.entry.numbers.now)) out.new out.old }
 {
-    let mut at = 0;
-    for i in 0..left.len() / 2 {
-        let lo = left[2 * i];
-        let hi = left[2 * i + 1];
-        let r = row(op, &mut work[at..], Interval { lo, hi }, right);
-        at += r;
+    for &[lo, hi] in left.numbers.as_chunks::<2>().0 {
+        row(op, out, Interval { lo, hi }, right);
     }
-    at
 }
 
 // The joined results at the front of work, and the flag.
-pub fn answer(op: Op, work: &mut [i64], left: &[i64], flag: bool, right: &[i64]) -> Core
-    requires { Argument left.now × Argument right.now × (need2 (factor_of op) left.now right.now ≤ length work.old) }
-    ensures { Cored (set_of op (intervals left.now) (intervals right.now)) (flag_of op flag (intervals left.now) (intervals right.now))
-        (need2 (factor_of op) left.now right.now) work.old work.new result }
+// Kept: operation, left set, flag and right set each by itself: a struct of the four would be made for this one call, and taken apart in it.
+pub fn answer(op: Op, work: &mut [i64], left: Operand, flag: bool, right: Operand) -> Written
+    requires { need2 (factor_of op) left.set.numbers.now right.set.numbers.now ≤ length work.old }
+    ensures { Cored (set_of op (intervals left.entry.set.numbers.now) (intervals right.entry.set.numbers.now))
+        (flag_of op flag (intervals left.entry.set.numbers.now) (intervals right.entry.set.numbers.now))
+        (need2 (factor_of op) left.entry.set.numbers.now right.entry.set.numbers.now) work.old work.new result }
 {
-    let f = flag_of(op, left, flag, right);
-    let m = all(op, work, left, right);
-    let c = sets::rebuild(work, m);
-    Core { count: c, flag: f }
+    let flag = flag_of(op, left.set.numbers, flag, right.set.numbers);
+    let mut results = Writer::new(work);
+    all(op, &mut results, left.set, right.set);
+    let written = results.len;
+    let count = sets::rebuild(&mut work[..written]);
+    Written { count, flag }
 }

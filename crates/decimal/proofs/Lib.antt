@@ -1,4 +1,1 @@
 mod Digits
-pub mod Chain
-pub mod Partly
-pub mod Pairs

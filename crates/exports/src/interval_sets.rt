@@ -1,5 +1,5 @@
-// Sets: each function is one call of a function of `number_intervals`. A set is the ends of its intervals in a slice, its flag beside it. Judged in this order:
-// left 2, left 1, right 2, right 1, 10 for an empty set (nearest, within), 3, 4.
+// Sets: each function is one call of a function of `number_intervals`. A set is the ends of its intervals in a slice, its flag beside it. Refused in this
+// order: the left set by `TooMany`, then `NotNormal`; the right set likewise; `EmptySet` of nearest and within; `TooShort` of work; `NoRoom` of out.
 ghost use Rattle.meaning.specs.Number as point;
 ghost use Rattle.meaning.specs.Promises.{Works1, Works2, Gives1, Gives2, Unites, Meets, Nears, Reaches};
 ghost use Rattle.answers.specs.Answers.{answer_of, member_of};

@@ -16,7 +16,8 @@ pub extern "C" fn juwenfo_line(text: &[u8], n: usize) -> Part
     sheet::place(text, n)
 }
 
-// 5 over the whole text, then line by line 6, 7, LO past HI, 8.
+// `Misshapen` is judged of the whole text, before any line is read; then the first line that is refused, by the first of `Ungrammatical`, `FarLiteral`,
+// `Ungrammatical` where its LO is past its HI, and `Misplaced`.
 #[unsafe(no_mangle)]
 pub extern "C" fn juwenfo_judge(text: &[u8]) -> Verdict
     ensures { verdict_of result ≡ read_verdict (read text.now) }

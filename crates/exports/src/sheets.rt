@@ -9,7 +9,8 @@ ghost use Rattle.answers.specs.Answers.{verdict_of, text_of};
 
 use answers::{Text, Verdict};
 
-// 3 where fewer numbers are lent than there are registers, then the refusals of the text, then the lines in order: 20, 21, 22.
+// `TooShort` where fewer numbers are lent than there are registers, then the refusals of the text, then of the first line that stops `ZeroDivisor`, `HoldBroken` or
+// `OutsideIn`.
 #[unsafe(no_mangle)]
 pub extern "C" fn juwenfo_run(text: &[u8], lent: &mut [i64]) -> Verdict
     ensures result_value { verdict_of result ≡ verdict (run_call text.now lent.old) }
@@ -19,7 +20,7 @@ pub extern "C" fn juwenfo_run(text: &[u8], lent: &mut [i64]) -> Verdict
     run::run(text, lent).into()
 }
 
-// 3 where sets or work is shorter than the check needs, then the refusals of the text, then the lines in order: 20, 21.
+// `TooShort` where sets or work is shorter than the check needs, then the refusals of the text, then of the first line that stops `ZeroDivisor` or `HoldBroken`.
 #[unsafe(no_mangle)]
 pub extern "C" fn juwenfo_check(text: &[u8], sets: &mut [i64], work: &mut [i64]) -> Verdict
     ensures result_value { verdict_of result ≡ verdict (check_call text.now sets.old work.old) }
@@ -29,7 +30,7 @@ pub extern "C" fn juwenfo_check(text: &[u8], sets: &mut [i64], work: &mut [i64])
     sheet_check::check(text, sets, work).into()
 }
 
-// The whole listing of any text at the front of out; 4 if it does not fit, and out is as it was lent.
+// The whole listing of any text at the front of out; `NoRoom` if it does not fit, and out is as it was lent.
 #[unsafe(no_mangle)]
 pub extern "C" fn juwenfo_listing(text: &[u8], out: &mut [u8]) -> Text
     ensures result_value { text_of result ≡ text_returns (listing_part text.now) out.old }
@@ -38,7 +39,8 @@ pub extern "C" fn juwenfo_listing(text: &[u8], out: &mut [u8]) -> Text
     listing::listing(text, out).into()
 }
 
-// The page for the wheelhouse at the front of out; a sheet that does not pass is answered as the check does, then 4 if the page does not fit, and out is as it was lent.
+// The page for the wheelhouse at the front of out; a sheet that does not pass is answered as the check does, then `NoRoom` if the page does not fit, and out is as
+// it was lent.
 #[unsafe(no_mangle)]
 pub extern "C" fn juwenfo_page(text: &[u8], out: &mut [u8]) -> Text
     ensures result_value { text_of result ≡ text_returns (page text.now) out.old }

@@ -10,11 +10,12 @@ use lib.Dec.{eqb}
 use lib.IntN.{ℤ}
 use lib.ListN.{get_or, drop}
 use borrow.Author.Tests.{eq-eqb, ne_eqb}
-use Rattle.std.specs.Prelude.{Option, Some}
+use Rattle.std.specs.Prelude.{Option, Some, None}
 use Rattle.meaning.specs.Number.{Op1, Op2}
 use Rattle.meaning.specs.Reading.{Got, got, bad, map_got, closed, literal, register, is_reg, is1, is2, is_none, head, start, Algebra, arg, form}
-use Rattle.literals.specs.Answer.{held}
-use Rattle.forms.specs.Answer.{head_of}
+use Rattle.literals.specs.Answer.{got_of, held}
+use Rattle.literals.specs.declared.Got.{Got as Found}
+use Rattle.forms.specs.Answer.{head_of, value_or}
 use Rattle.forms.specs.declared.Head.{Head as Opening}
 
 -- the closing bracket leaves what is made of the value
@@ -111,3 +112,11 @@ module _ {A : Type 0} (alg : Algebra A) where
             pub form_no_second : bad ≡ arg next d t' → bad ≡ form alg d s
             unfolding form
             form_no_second ea' = let e = ea' ∙ ap (λ (x : Algebra A). arg x d t') same in rw (← eh, ← ek, ← et, ← ea, ← eb, eq-eqb _ _ sp, ← et', ← e)
+
+-- what a whole argument comes to, by what was read of it
+module _ {V A : Type 0} (m : V → A) {q : Option (Found V)} {g : Got A} (e : map_got m (got_of q) ≡ g) (d : A) where
+  pub value_none : q ≡ None → d ≡ value_or d g
+  value_none h = ap (value_or d) (ap (λ (x : Option (Found V)). map_got m (got_of x)) (sym h) ∙ e)
+
+  pub value_some : {f : Found V} → q ≡ Some f → m f.value ≡ value_or d g
+  value_some h = ap (value_or d) (ap (λ (x : Option (Found V)). map_got m (got_of x)) (sym h) ∙ e)

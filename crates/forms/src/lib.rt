@@ -1,13 +1,15 @@
 // Reading a form from its bytes: its word, its arguments, its brackets, and what is made of them on the way.
 #![tactic(auto)]
 
-ghost use Rattle.std.specs.Prelude.{◌≡◌, ◌≤◌, ◌<◌, ◌≢◌, ◌∷◌, [], ℤ, Bool};
+ghost use Rattle.std.specs.Prelude.{◌≡◌, ◌≤◌, ◌<◌, ◌≢◌, ◌∷◌, [], ℤ, Bool, Err};
 ghost use Rattle.meaning.specs.Sheet.{registers};
 ghost use Rattle.meaning.specs.Reading.{map_got, closed as closed_at, head, start as start_of, arg as arg_at, form as form_at, Algebra as Made};
 ghost use Rattle.literals.specs.Answer.{got_of, held};
-ghost use Rattle.forms.specs.Answer.{op1_of, op2_of, head_of, sizes};
+ghost use Rattle.forms.specs.Answer.{op1_of, op2_of, head_of, value_or, sizes};
 
+use limits::INNER;
 use literals::{Got, at, read_literal, read_register, tail};
+use refusals::Cause;
 
 // The operations of one argument that a form names.
 #[derive(Clone, Copy, Debug, PartialEq, Eq)]
@@ -33,6 +35,7 @@ pub enum Op2 {
 }
 
 // How a form begins: its bracket, its word, a space.
+// Kept: `Reg` stands for no missing value; the other two hold the operation that they name.
 #[derive(Clone, Copy, Debug, PartialEq, Eq)]
 pub enum Head {
     Reg,
@@ -69,6 +72,7 @@ pub trait Algebra {
 }
 
 // How a form begins.
+// Kept: the bytes one by one; by slice patterns of the text it was tried, and the proof did not close, as the arms' goals had no fact of the bytes that they test.
 pub fn read_head(text: &[u8]) -> Option<Head>
     ensures { head_of result ≡ head text.now }
 {
@@ -124,6 +128,7 @@ fn long_word(a: u8, b: u8, c: u8) -> Option<Head>
 }
 
 // Where a form's first argument starts.
+// Kept: beside `read_head`, since this is promised of each text, and the length of a head that is found would be said of no other.
 #[tactic(auto, unfolding(meaning::specs::Reading::start))]
 pub fn start(text: &[u8]) -> usize
     ensures { result ≡ start_of text.now }
@@ -191,6 +196,19 @@ fn read_form<A: Algebra>(text: &[u8], depth: usize, algebra: &mut A) -> Option<G
             closed(text, j + b.len, algebra.two(op, a.value, b.value))
         }
     }
+}
+
+// What the argument at the front of the text comes to, refused where none can be read.
+#[tactic(auto, using(crate::proofs::Forms::value_none, crate::proofs::Forms::value_some))]
+pub fn value<T: Copy, A: Algebra<Value = Result<T, Cause>>>(
+    text: &[u8],
+    algebra: &mut A,
+) -> Result<T, Cause>
+    ensures { A.meaning result ≡ value_or (A.meaning (Err Cause.Ungrammatical)) (arg_at (A.algebra algebra.old) 7 text.now) }
+{
+    read_arg(text, INNER, algebra)
+        .ok_or(Cause::Ungrammatical)?
+        .value
 }
 
 // Tells whether a literal is beyond MIN..MAX.

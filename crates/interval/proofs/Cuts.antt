@@ -1,5 +1,5 @@
 -- The parts of an interval below and above a number in it: together they are the interval without that number. Assumes nothing.
-use Rattle.std.proofs.Common.{◌≡◌, refl, sym, ap, ◌∙◌, Bool, true, false, cond, List, [], ◌∷◌, pos, ◌++◌, append_assoc, arith, ℤ, ℕ, ◌≤◌, length, Option, Some, None}
+use Rattle.std.proofs.Common.{◌≡◌, refl, sym, ap, ◌∙◌, Bool, true, false, cond, List, [], ◌∷◌, pos, ◌++◌, append_assoc, ℤ, Option, Some, None}
 use Rattle.std.proofs.Math.IntN.{suc_ℤ, pred_ℤ}
 use mathlib.Core.List.{append-nil}
 use lib.Signed.{lt_z}
@@ -9,7 +9,6 @@ use mir.Syntax.{w64}
 use mir.Val.{SFits}
 use Rattle.laws.proofs.Machine.{fits_range}
 use Rattle.meaning.specs.Interval.{Proper, span, without, each}
-use Rattle.meaning.specs.NumberIntervals.{flat}
 use Rattle.interval.specs.declared.Interval.{Interval}
 use Rattle.interval.specs.declared.divisor.Divisor.{Divisor}
 use Rattle.interval.specs.Part.{of_part, spans, of_divisor, divisor_spans}
@@ -30,14 +29,6 @@ part_some false x y e = absurd (cc)
 pub part_none : (b : Bool) (x y : ℤ) → [] ≡ cond b (span x y) [] → b ≡ false
 part_none true x y e = absurd (cc)
 part_none false x y e = refl
-
--- room for one interval
-pub span_two : (a b : ℤ) → length (flat (span a b)) ≡ 2
-unfolding flat
-span_two a b = refl
-
-pub room_two : (a b : ℤ) {n : ℕ} → length (flat (span a b)) ≤ n → 2 ≤ n
-room_two a b h = omega (arith, span_two a b)
 
 pub each_single : (g : ℤ → ℤ → List meant.Interval) (a b : ℤ) → each g (span a b) ≡ g a b
 unfolding each

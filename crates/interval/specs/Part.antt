@@ -19,10 +19,3 @@ spans = of_part meant.span
 
 abbrev pub divisor_spans : Option Divisor → List meant.Interval
 divisor_spans = of_divisor meant.span
-
--- what g gives of two, where both are
-abbrev pub of_pair : meant.PairOp → Option Interval → Option Interval → List meant.Interval
-of_pair g left right = of_part (λ s e. of_part (g s e) right) left
-
-abbrev pub of_both : meant.PairOp → Option Interval → Option Divisor → List meant.Interval
-of_both g left right = of_part (λ s e. of_divisor (g s e) right) left

@@ -1,6 +1,7 @@
-// An interval is a start and an end, start at most end, both from MIN to MAX. The rule of each operation takes one interval or a pair of them and writes the
-// ends of its intervals from the front of a lent slice, before any joining. Special are MIN, which negation keeps, and ends that wrap, where the result is
-// split at the end of the range.
+// An interval is a start and an end, start at most end, both from MIN to MAX. The rules of neg, abs, add and sub take one interval or a pair of them and
+// write the ends of the result behind what a writer has already, before any joining. Special are MIN, which negation keeps, and ends that wrap, where the
+// result is split at the end of the range.
+// Kept: `out`, `left` and `right` apart, since a struct of them would be made for one call and taken apart in it.
 #![tactic(auto)]
 
 ghost use Rattle.std.specs.Prelude.{◌≤ℤ◌};

@@ -19,6 +19,7 @@ impl Interval {
     }
 
     // The part below c, which is in the interval.
+    // Kept: that c is inside stands in the contract, here and wherever one is cut out, since it tells of two values at once.
     pub fn below(self, c: i64) -> Option<Interval>
         requires { within self.lo c self.hi ≡ true }
         ensures { spans result ≡ cond (lt_z self.lo c) (span self.lo (pred_ℤ c)) [] }

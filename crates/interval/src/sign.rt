@@ -1,24 +1,25 @@
 // neg and abs of one interval.
-ghost use Rattle.std.specs.Prelude.{◌≡◌, ◌≤◌, length, ◌<ℤ◌};
+ghost use Rattle.std.specs.Prelude.{◌≡◌, ◌≤◌, ◌+◌, length, ◌<ℤ◌};
 ghost use Rattle.meaning.specs.Number as point;
 ghost use Rattle.meaning.specs.Interval.{span, neg_pair, abs_rest, abs_pair};
-ghost use Rattle.slices.specs.Wrote.{Wrote};
+ghost use Rattle.slices.specs.Adds.{Adds};
 
 use crate::Interval;
 use number::{MAX, MIN};
 use slices::{put_one, put_two};
+use writer::Writer;
 
 // [-e,-s] of [s,e]; MIN stays, and the rest of [MIN,e] becomes [-e,MAX].
-pub fn neg_pair(out: &mut [i64], left: Interval) -> usize
-    requires { 4 ≤ length out.old }
-    ensures { Wrote result (neg_pair left.lo left.hi) out.new out.old }
+pub fn neg_pair(out: &mut Writer<i64>, left: Interval)
+    requires { out.old.len + 4 ≤ length out.old.room.now }
+    ensures { Adds (neg_pair left.lo left.hi) out.new out.old }
 {
     if left.lo > MIN {
-        put_one(out, -left.hi, -left.lo)
+        put_one(out, -left.hi, -left.lo);
     } else if left.hi > MIN {
-        put_two(out, -left.hi, MAX, MIN, MIN)
+        put_two(out, -left.hi, MAX, MIN, MIN);
     } else {
-        put_one(out, MIN, MIN)
+        put_one(out, MIN, MIN);
     }
 }
 
@@ -43,19 +44,17 @@ fn magnitudes(left: Interval) -> Interval
 }
 
 // The magnitudes of an interval; MIN stays, and the rest of [MIN,e] goes on from -MAX.
-pub fn abs_pair(out: &mut [i64], left: Interval) -> usize
-    requires { 4 ≤ length out.old }
-    ensures { Wrote result (abs_pair left.lo left.hi) out.new out.old }
+pub fn abs_pair(out: &mut Writer<i64>, left: Interval)
+    requires { out.old.len + 4 ≤ length out.old.room.now }
+    ensures { Adds (abs_pair left.lo left.hi) out.new out.old }
 {
     if left.lo > MIN {
         let m = magnitudes(left);
-        return put_one(out, m.lo, m.hi);
-    }
-    match left.above(MIN) {
-        Some(rest) => {
-            let m = magnitudes(rest);
-            put_two(out, MIN, MIN, m.lo, m.hi)
-        }
-        None => put_one(out, MIN, MIN),
+        put_one(out, m.lo, m.hi);
+    } else if let Some(rest) = left.above(MIN) {
+        let m = magnitudes(rest);
+        put_two(out, MIN, MIN, m.lo, m.hi);
+    } else {
+        put_one(out, MIN, MIN);
     }
 }

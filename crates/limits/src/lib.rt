@@ -1,4 +1,4 @@
-// The sizes of sheets, of sets and of the slices that calls are lent, one name each.
+// The sizes of sheets, of sets and of the slices that calls are lent.
 #![tactic(auto)]
 
 // Registers of a sheet.

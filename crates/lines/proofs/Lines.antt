@@ -3,7 +3,7 @@ use mathlib.Core.Path.{◌≡◌, refl, sym, ap, ◌∙◌}
 use mathlib.Core.Bool.{Bool, true, false, cond, ◌||◌, ◌&&◌}
 use mathlib.Core.List.{List, [], ◌∷◌}
 use lib.Pointwise.{pointwise}
-use Prim.Native.Nat.{ℕ, suc, ◌+◌, ◌-◌, ◌<◌}
+use Prim.Native.Nat.{ℕ, suc, ◌+◌, ◌<◌}
 use Prim.Native.Char.{code}
 use native.Mathlib.Omega.{arith}
 use native.Mathlib.Nat.{add_assoc, add-zero}
@@ -13,7 +13,7 @@ use lib.Signed.{lt_z}
 use lib.ListN.{length, get_or, take, drop, length-drop}
 use lib.Seq.{drop-drop, get_or-drop}
 use borrow.Author.Tests.{eq-eqb, ne_eqb, eqb-true, eqb-false}
-use Rattle.std.specs.Prelude.{Option, Some, None, Result, Ok, Err}
+use Rattle.std.specs.Prelude.{Option, Some, None, Result, Err}
 use Rattle.meaning.specs.Outcome.{Res, ok, stop}
 use Rattle.meaning.specs.Sheet.{beyond, Form, put, hold, Line, act, far_form, far_act, far_line, crossed_act, crossed_line}
 use Rattle.meaning.specs.Reading.{Got, got, bad, map_got, and_then, byte, closed, begins, literal, register, arg, tree, on_register, bounds, value, act_of, line_of, whole_line, judged, read_line}
@@ -24,10 +24,8 @@ use Rattle.interval.specs.declared.Interval.{Interval}
 use Rattle.literals.specs.Answer.{got_of, held as value_of}
 use Rattle.literals.specs.declared.Got.{Got as Found}
 use Rattle.literals.proofs.Literals.{found, not_found}
-use Rattle.literals.proofs.Within.{byte_lt}
 use Rattle.forms.specs.Answer.{sizes}
-use Rattle.lines.specs.Answer.{ends, ranged, range_from, put_at, put_of, line_from}
-use Rattle.lines.specs.declared.Line.TheVariants.{Put}
+use Rattle.lines.specs.Answer.{ends, ranged, range_from, put_at, put_of}
 use Rattle.meaning.specs.Bytes.{bytes}
 use Rattle.laws.proofs.Integers.{cond_case}
 use Rattle.laws.proofs.Fusion.{map_cond, map_any, map_closed, far_arg}
@@ -198,14 +196,8 @@ module _ (s : List ℕ) (r i : ℕ) {t : List ℕ} (et : t ≡ drop i s) {q : Op
       pub put_far : size.value ≡ true → stop 7 ≡ judged (whole_line s (put_at s r i))
       put_far k = sym (put_judged ∙ ap (λ b. cond b (stop 7) (ok (act (put r tree_got.0)))) k)
 
-      pub put_is : {j : ℕ} → j ≡ i → size.value ≡ false → put_of r (arg tree 7 (drop j s)) ≡ judged (whole_line s (put_at s r i))
-      put_is {j} ej k = ap (λ n. put_of r (arg tree 7 (drop n s))) ej ∙ ap (put_of r) (ap (arg tree 7) (sym et) ∙ tree_got.1) ∙ sym (put_judged ∙ ap (λ b. cond b (stop 7) (ok (act (put r tree_got.0)))) k)
-
--- where the form starts, by what is left of the line there
-pub form_start : (s : List ℕ) (i n : ℕ) {t u : List ℕ} → t ≡ drop i s → get_or t n 0 ≡ 32 → u ≡ drop (n + 1) t → length s - length u ≡ i + n + 1
-form_start s i n {t} {u} et sp eu =
-    let l = byte_lt s (i + n) (omega (arith, at_part s i n et)) in
-    omega (arith, ap length (left_part s i n et eu), length-drop (i + n + 1) s)
+      pub put_is : size.value ≡ false → put_of r (arg tree 7 t) ≡ judged (whole_line s (put_at s r i))
+      put_is k = ap (put_of r) tree_got.1 ∙ sym (put_judged ∙ ap (λ b. cond b (stop 7) (ok (act (put r tree_got.0)))) k)
 
 -- ---- the line's register
 
@@ -306,9 +298,10 @@ pub refused_some : (s : List ℕ) → read_line s ≡ stop 0 → ⊥
 unfolding read_line
 refused_some s e = judged_some (whole_line s (line_of 7 s)) (whole_some s (line_of 7 s)) e
 
-pub put_reads : (s : List ℕ) (r j : ℕ) → line_from s (Ok (Put r j)) ≡ read_line s → (e : Form) × (n : ℕ) × (arg tree 7 (drop j s) ≡ got e n) × (read_line s ≡ ok (act (put r e)))
-put_reads s r j h = go (arg tree 7 (drop j s)) refl
+-- a put holds a form that can be read
+pub put_reads : (s : List ℕ) (r : ℕ) (t : List ℕ) → put_of r (arg tree 7 t) ≡ read_line s → (e : Form) × (n : ℕ) × (arg tree 7 t ≡ got e n) × (read_line s ≡ ok (act (put r e)))
+put_reads s r t h = go (arg tree 7 t) refl
   where
-    go : (g : Got Form) → arg tree 7 (drop j s) ≡ g → (e : Form) × (n : ℕ) × (arg tree 7 (drop j s) ≡ got e n) × (read_line s ≡ ok (act (put r e)))
+    go : (g : Got Form) → arg tree 7 t ≡ g → (e : Form) × (n : ℕ) × (arg tree 7 t ≡ got e n) × (read_line s ≡ ok (act (put r e)))
     go (got e n) q = (e, n, q, sym h ∙ ap (put_of r) q)
     go bad q = absurd (refused_some s (sym h ∙ ap (put_of r) q))

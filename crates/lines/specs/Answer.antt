@@ -1,5 +1,5 @@
 -- What each answer of the code says, in the words of `meaning`. Assumes nothing.
-use Rattle.std.specs.Prelude.{eqb, ℤ, length, get_or, drop, Bool, true, false, ◌&&◌, List, ℕ, ◌+◌, Result, Ok, Err}
+use Rattle.std.specs.Prelude.{eqb, ℤ, length, get_or, Bool, true, false, ◌&&◌, List, ℕ, ◌+◌, Result, Ok, Err}
 use Prim.Native.Char.{code}
 use Rattle.meaning.specs.Outcome.{Res, ok, stop}
 use Rattle.meaning.specs.Sheet.{Form, put, hold, Line as Read, input, act}
@@ -38,9 +38,9 @@ abbrev pub put_of : ℕ → Got Form → Res Read
 put_of r (got e n) = ok (act (put r e))
 put_of r bad = stop 0
 
--- the line that an answer says of the text s: Put holds where its form starts
-abbrev pub line_from : List ℕ → Result Line Cause → Res Read
-line_from s (Ok (In r range)) = ok (input r range.lo range.hi)
-line_from s (Ok (Put r j)) = put_of r (arg tree 7 (drop j s))
-line_from s (Ok (Hold r range)) = ok (act (hold r range.lo range.hi))
-line_from s (Err cause) = stop (number_of cause)
+-- the line that an answer says: Put holds the text from its form on
+abbrev pub line_from : Result Line Cause → Res Read
+line_from (Ok (In r range)) = ok (input r range.lo range.hi)
+line_from (Ok (Put r form)) = put_of r (arg tree 7 form.now)
+line_from (Ok (Hold r range)) = ok (act (hold r range.lo range.hi))
+line_from (Err cause) = stop (number_of cause)

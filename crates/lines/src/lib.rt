@@ -1,4 +1,4 @@
-// Reading a line of a sheet from its bytes, without its LF: its kind, its register, its range or where its form starts.
+// Reading a line of a sheet from its bytes, without its LF: its kind, its register, its range or its form.
 #![tactic(auto)]
 
 ghost use Rattle.std.specs.Prelude.{◌≡◌, ◌+◌, ◌≢◌, List, ℕ, Bool, length, drop, get_or, MatchResult, true, false};
@@ -11,11 +11,11 @@ use limits::INNER;
 use literals::{read_literal, read_register, tail};
 use refusals::Cause;
 
-// A line: its register, and its range or where its form starts.
+// A line: its register, and its range or the text from its form on.
 #[derive(Clone, Copy, Debug, PartialEq, Eq)]
-pub enum Line {
+pub enum Line<'a> {
     In(usize, Interval),
-    Put(usize, usize),
+    Put(usize, &'a [u8]),
     Hold(usize, Interval),
 }
 
@@ -43,6 +43,7 @@ fn ends(text: &[u8], n: usize) -> Result<(), Cause>
 }
 
 // A range, up to the line's end, where the line is read up to the text.
+// Kept: that the text is what the line has from i on stands here and in the two below, since the definitions say where in a line each part ends, and nothing of a part alone.
 #[tactic(auto, using(crate::proofs::Lines::bounds_bad, crate::proofs::Lines::bounds_no_space, crate::proofs::Lines::bounds_second_bad, crate::proofs::Lines::bounds_unended, crate::proofs::Lines::bounds_far_lo, crate::proofs::Lines::bounds_far_hi, crate::proofs::Lines::bounds_crossed, crate::proofs::Lines::bounds_is))]
 fn range(text: &[u8]) -> Result<Interval, Cause>
     ensures { (line : List ℕ) (i : ℕ) (held : Bool) (r : ℕ) → text.now ≡ drop i line
@@ -72,11 +73,11 @@ fn ranged(text: &[u8]) -> Result<(usize, Interval), Cause>
     Ok((register.value, range))
 }
 
-// The put of a line, whose register stands at the front of the text.
-#[tactic(auto, using(crate::proofs::Lines::no_register, crate::proofs::Lines::register_no_space, crate::proofs::Lines::register_is, crate::proofs::Lines::left_part, crate::proofs::Lines::put_bad, crate::proofs::Lines::put_unended, crate::proofs::Lines::put_far, crate::proofs::Lines::put_is, crate::proofs::Lines::form_start))]
-fn put(line: &[u8], text: &[u8]) -> Result<Line, Cause>
-    requires { text.now ≡ drop 5 line.now }
-    ensures { line_from line.now result ≡ judged (whole_line line.now (on_register line.now 5 (put_at line.now))) }
+// The register and the form of a put, up to the line's end, where the line is read up to the text.
+#[tactic(auto, using(crate::proofs::Lines::no_register, crate::proofs::Lines::register_no_space, crate::proofs::Lines::register_is, crate::proofs::Lines::left_part, crate::proofs::Lines::put_bad, crate::proofs::Lines::put_unended, crate::proofs::Lines::put_far, crate::proofs::Lines::put_is))]
+fn put(text: &[u8]) -> Result<Line<'_>, Cause>
+    ensures { (line : List ℕ) (i : ℕ) → text.now ≡ drop i line
+        → line_from result ≡ judged (whole_line line (on_register line i (put_at line))) }
 {
     let register = read_register(text).ok_or(Cause::Ungrammatical)?;
     let form = after_space(text, register.len)?;
@@ -85,19 +86,19 @@ fn put(line: &[u8], text: &[u8]) -> Result<Line, Cause>
     if size.value {
         return Err(Cause::FarLiteral);
     }
-    Ok(Line::Put(register.value, line.len() - form.len()))
+    Ok(Line::Put(register.value, form))
 }
 
 // The whole line, without its LF.
 #[tactic(auto, using(crate::proofs::Lines::line_in, crate::proofs::Lines::line_put, crate::proofs::Lines::line_hold, crate::proofs::Lines::line_none))]
-pub fn read_line(text: &[u8]) -> Result<Line, Cause>
-    ensures { line_from text.now result ≡ read_line text.now }
+pub fn read_line(text: &[u8]) -> Result<Line<'_>, Cause>
+    ensures { line_from result ≡ read_line text.now }
 {
     if let Some(rest) = text.strip_prefix(b"(in ") {
         let (register, range) = ranged(rest)?;
         Ok(Line::In(register, range))
     } else if let Some(rest) = text.strip_prefix(b"(put ") {
-        put(text, rest)
+        put(rest)
     } else if let Some(rest) = text.strip_prefix(b"(hold ") {
         let (register, range) = ranged(rest)?;
         Ok(Line::Hold(register, range))

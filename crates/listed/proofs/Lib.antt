@@ -1,3 +1,2 @@
 pub mod Marks
-pub mod Checked
-pub mod Passed
+pub mod Showing

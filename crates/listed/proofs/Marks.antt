@@ -1,12 +1,13 @@
 -- The marks after the last line are set for just the registers that the listing shows. Assumes nothing.
 use lib.Dec.{eqb}
-use lib.ListN.{length, get_or, set, drop, replicate, length-set, length-replicate}
+use lib.ListN.{length, get_or, set, replicate, length-set, length-replicate}
 use lib.Seq.{get_or-set_same, get_or-set_other}
 use mathlib.Core.Path.{◌≡◌, refl, sym, ap, ◌∙◌, subst}
 use mathlib.Core.Bool.{Bool, true, false, ◌||◌}
 use mathlib.Core.List.{List, [], ◌∷◌}
 use Prim.Native.Nat.{ℕ, ◌<◌}
 use borrow.Author.Tests.{eqb-true, eqb-false}
+use Rattle.std.specs.Borrow.{Bor}
 use Rattle.std.specs.Prelude.{Result, Ok, Err}
 use Rattle.meaning.specs.Outcome.{Res, ok, stop}
 use Rattle.meaning.specs.Sheet.{registers, put, hold, Line, Form, FineLine, FineAct, input, act}
@@ -83,16 +84,16 @@ pub record Marks (s : List ℕ) (r : ℕ) : Type 0 where
   pub there : r < registers
   pub marked : (m : List Bool) → set m r true ≡ mark_line (read_line s) m
 
-module _ (s : List ℕ) {l : Result Found Cause} (h : line_from s l ≡ read_line s) (R : Readable s) where
+module _ (s : List ℕ) {l : Result Found Cause} (h : line_from l ≡ read_line s) (R : Readable s) where
   pub input_marks : {r : ℕ} {range : Interval} → l ≡ Ok (In r range) → Marks s r
   unfolding mark_line FineLine
   input_marks {r} {range} e =
-      let k : read_line s ≡ ok (input r range.lo range.hi) = sym h ∙ ap (line_from s) e in
+      let k : read_line s ≡ ok (input r range.lo range.hi) = sym h ∙ ap line_from e in
       record { there = (read_line_fine s k).there; marked = λ m. ap (λ (x : Res Line). mark_line x m) (sym k) }
 
-  pub put_marks : {r j : ℕ} → l ≡ Ok (Put r j) → Marks s r
+  pub put_marks : {r : ℕ} {form : Bor (List ℕ)} → l ≡ Ok (Put r form) → Marks s r
   unfolding mark_line FineLine FineAct
-  put_marks {r} {j} e = go (arg tree 7 (drop j s)) (sym h ∙ ap (line_from s) e)
+  put_marks {r} {form} e = go (arg tree 7 form.now) (sym h ∙ ap line_from e)
     where
       go : (g : Got Form) → read_line s ≡ put_of r g → Marks s r
       go (got f n) k = record { there = (read_line_fine s k).0; marked = λ m. ap (λ (x : Res Line). mark_line x m) (sym k) }
@@ -100,11 +101,11 @@ module _ (s : List ℕ) {l : Result Found Cause} (h : line_from s l ≡ read_lin
 
   pub hold_marks : {r : ℕ} {range : Interval} → l ≡ Ok (Hold r range) → (m : List Bool) → m ≡ mark_line (read_line s) m
   unfolding mark_line
-  hold_marks e m = ap (λ (x : Res Line). mark_line x m) (sym (ap (line_from s) e) ∙ h)
+  hold_marks e m = ap (λ (x : Res Line). mark_line x m) (sym (ap line_from e) ∙ h)
 
   pub refused_marks : {c : Cause} → l ≡ Err c → (m : List Bool) → m ≡ mark_line (read_line s) m
   unfolding mark_line
-  refused_marks e m = ap (λ (x : Res Line). mark_line x m) (sym (ap (line_from s) e) ∙ h)
+  refused_marks e m = ap (λ (x : Res Line). mark_line x m) (sym (ap line_from e) ∙ h)
 
 -- ---- line by line: the lines that are left read as those of a sheet, and with them the marks are those of the text
 

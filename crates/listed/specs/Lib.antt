@@ -1,3 +1,2 @@
 pub mod Marks
-pub mod Counted
-pub mod Told
+pub mod Showing

@@ -1,35 +1,31 @@
-// What the parts that show a passed sheet share: the marks of the registers with an `in` or `put`, and the ends of a register's set.
+// What the parts that show a passed sheet share: the registers that it writes, each with its set, and a text made of them.
 #![tactic(auto)]
 
-ghost use Rattle.std.specs.Prelude.{◌≡◌, ℕ, ◌+◌, ◌*◌, ◌<◌, length, get_or, take, drop, pos};
+ghost use Rattle.std.specs.Prelude.{◌≡◌, ℕ, ◌<◌, List};
+ghost use Rattle.meaning.specs.NumberIntervals.{Set};
 ghost use Rattle.meaning.specs.Sheet.{registers};
 ghost use Rattle.meaning.specs.Reading.{read_line};
-ghost use Rattle.meaning.specs.Check.{slot_size, count_in, sets_need};
+ghost use Rattle.writer.specs.Written.{Fits, Appends};
 ghost use Rattle.sheet.specs.Judging.{IsSheet};
-ghost use Rattle.listed.specs.Counted.{Counted};
+ghost use Rattle.set_values.specs.Value.{set_of};
 ghost use Rattle.listed.specs.Marks.{mark_line, marks_of, Readable};
 
-use limits::{REGISTERS, SLOT};
+use limits::{REGISTERS, WORK};
 use lines::{Line, read_line};
+use refusals::Trouble;
+use set_values::{FormSet, Registers};
 use sheet::Lines;
+use sheet_check::check_text;
+use writer::Writer;
 
-// How many intervals the first number of a register's slot says.
-fn count_in(x: i64) -> usize
-    ensures { result ≡ count_in x }
-{
-    usize::try_from(x).unwrap_or(0)
-}
+// What a part writes of a register.
+pub trait RegisterText {
+    ghost text: { ℕ → Set → List ℕ };
 
-// The ends of register r's set.
-pub fn ends_of(sets: &[i64], r: usize) -> &[i64]
-    requires { (length sets.now ≡ sets_need) × (r < registers) × Counted sets.now }
-    ensures { result.now ≡ take (2 * count_in (get_or sets.now (slot_size * r) (pos 0))) (drop (slot_size * r + 1) sets.now) }
-{
-    let at = SLOT * r;
-    let n = count_in(sets[at]);
-    let from = at + 1;
-    let to = from + 2 * n;
-    &sets[from..to]
+    // Of register r with this set.
+    fn write(out: &mut Writer<u8>, r: usize, set: FormSet)
+        requires { (r < registers) × Fits (text r (set_of set)) out.old }
+        ensures { Appends (text r (set_of set)) out.new out.old };
 }
 
 // Marks the register of a line's `in` or `put`.
@@ -47,7 +43,7 @@ fn mark(marks: &mut [bool; REGISTERS], line: &[u8])
 }
 
 // The registers that the lines of a sheet write are marked.
-pub fn marks_of(text: &[u8]) -> [bool; REGISTERS]
+fn marks_of(text: &[u8]) -> [bool; REGISTERS]
     requires { (n : ℕ) × IsSheet text.now n }
     ensures { result ≡ marks_of text.now }
 {
@@ -56,4 +52,51 @@ pub fn marks_of(text: &[u8]) -> [bool; REGISTERS]
         mark(&mut marks, line);
     }
     marks
+}
+
+// A sheet that the check passes: how many lines it has, the registers that they write, and all registers' sets after the last one.
+// Kept: the count is that of the lines, and no length of what stands beside it.
+#[derive(Clone, Copy, Debug, PartialEq, Eq)]
+pub struct Shown {
+    pub count: usize,
+    marks: [bool; REGISTERS],
+    registers: Registers,
+}
+
+impl Shown {
+    ghost use Rattle.std.specs.Prelude.{option_map};
+    ghost use Rattle.listed.specs.Showing.{shown, whole, Told};
+
+    // The sheet of a text, or what the check answers in its place.
+    pub fn of(text: &[u8]) -> Result<Shown, Trouble>
+        ensures { Told result text.now }
+    {
+        let mut work = [0i64; WORK];
+        let passed = check_text(text, &mut work)?;
+        Ok(Shown {
+            count: passed.count,
+            marks: marks_of(text),
+            registers: passed.registers,
+        })
+    }
+
+    // The set of register r, if the sheet writes it.
+    pub fn set(&self, r: usize) -> Option<FormSet>
+        requires { r < registers }
+        ensures { option_map set_of result ≡ shown self.now r }
+    {
+        self.marks[r].then(|| self.registers.set(r))
+    }
+
+    // Writes the text of each register that the sheet writes.
+    pub fn write<T: RegisterText>(&self, out: &mut Writer<u8>)
+        requires { Fits (whole T.text self.now) out.old }
+        ensures { Appends (whole T.text self.now) out.new out.old }
+    {
+        for r in 0..REGISTERS {
+            if let Some(set) = self.set(r) {
+                T::write(out, r, set);
+            }
+        }
+    }
 }

@@ -1,3 +1,2 @@
-mod Marked
 mod Longest
-mod Pass
+mod Lines

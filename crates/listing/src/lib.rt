@@ -2,74 +2,47 @@
 // by `wording`; here is which of them a text has.
 #![tactic(auto)]
 
-ghost use Rattle.std.specs.Prelude.{◌≡◌, ◌++◌, ◌+◌, ◌≤◌, length, ℕ, Result};
-ghost use Rattle.meaning.specs.Sheet.{registers};
-ghost use Rattle.meaning.specs.Check.{sets_need};
+ghost use Rattle.std.specs.Prelude.{◌+◌, ◌≤◌, length};
 ghost use Rattle.meaning.specs.Composing.{text};
-ghost use Rattle.meaning.specs.Listing.{pass_line, listing, listing_part};
-ghost use Rattle.decimal.specs.Written.{Fits, Appends};
+ghost use Rattle.meaning.specs.Listing.{register_line, listing, listing_part};
+ghost use Rattle.writer.specs.Written.{Appends};
 ghost use Rattle.texts.specs.Answers.{Writes};
-ghost use Rattle.sheet.specs.Judging.{IsSheet};
-ghost use Rattle.listed.specs.Counted.{Counted};
-ghost use Rattle.listed.specs.Marks.{marks_of};
-ghost use Rattle.listed.specs.Told.{Told};
 ghost use Rattle.listing.specs.Longest.{longest};
-ghost use Rattle.listing.specs.Texts.{marked_lines};
 
-use decimal::Writer;
-use limits::{REGISTERS, SETS, WORK};
-use listed::{ends_of, marks_of};
+use listed::{RegisterText, Shown};
 use refusals::{Cause, Trouble};
-use sheet_check::check;
+use set_values::FormSet;
 use wording::{pass_line, register_line, trouble_line};
+use writer::Writer;
 
 // No listing is longer: "pass 256" and LF, and for each register a name counted as three bytes, 16 intervals, each of two numbers of up to 20 bytes behind one space and two points, and LF.
 pub const LONGEST: usize = 11081;
 
-// The lines of the registers that are marked.
-fn marked_lines(out: &mut Writer, marks: &[bool; REGISTERS], sets: &[i64])
-    requires marked { (length sets.now ≡ sets_need) × Counted sets.now }
-    requires room { Fits (marked_lines marks.now sets.now 0 registers) out.old }
-    ensures { Appends (marked_lines marks.now sets.now 0 registers) out.new out.old }
-{
-    for (r, is_marked) in marks.iter().enumerate() {
-        if *is_marked {
-            register_line(out, r, ends_of(sets, r));
-        }
-    }
-}
+// The line of a register.
+struct RegisterLine;
 
-// The listing of a sheet of n lines that the check passes with these sets.
-fn passed(out: &mut Writer, text: &[u8], sets: &[i64], n: usize)
-    requires sheet { IsSheet text.now n × (length sets.now ≡ sets_need) × Counted sets.now }
-    requires room { Fits (pass_line n ++ marked_lines (marks_of text.now) sets.now 0 registers) out.old }
-    ensures { Appends (pass_line n ++ marked_lines (marks_of text.now) sets.now 0 registers) out.new out.old }
-{
-    pass_line(out, n);
-    marked_lines(out, &marks_of(text), sets);
-}
+impl RegisterText for RegisterLine {
+    ghost text = { register_line };
 
-// The listing by what the check answered.
-fn told(out: &mut Writer, text: &[u8], sets: &[i64], answer: Result<usize, Trouble>)
-    requires { Told text.now sets.now answer × (out.old.len + longest ≤ length out.old.room.now) }
-    ensures { Appends (listing text.now) out.new out.old }
-{
-    match answer {
-        Ok(n) => passed(out, text, sets, n),
-        Err(Trouble::Stopped(cause, line)) => trouble_line(out, b"stop ", u8::from(cause), line),
-        Err(Trouble::Refused(cause, line)) => trouble_line(out, b"refused ", u8::from(cause), line),
+    #[tactic(auto, using(laws::proofs::Flat::intervals_flat))]
+    fn write(out: &mut Writer<u8>, r: usize, set: FormSet) {
+        register_line(out, r, set.ends().set.numbers);
     }
 }
 
 // The listing of a text, where there is room for any.
-fn list_into(out: &mut Writer, text: &[u8])
+fn list_into(out: &mut Writer<u8>, text: &[u8])
     requires { out.old.len + longest ≤ length out.old.room.now }
     ensures { Appends (listing text.now) out.new out.old }
 {
-    let mut sets = [0i64; SETS];
-    let mut work = [0i64; WORK];
-    let answer = check(text, &mut sets, &mut work);
-    told(out, text, &sets, answer);
+    match Shown::of(text) {
+        Ok(shown) => {
+            pass_line(out, shown.count);
+            shown.write::<RegisterLine>(out);
+        }
+        Err(Trouble::Stopped(cause, line)) => trouble_line(out, b"stop ", cause, line),
+        Err(Trouble::Refused(cause, line)) => trouble_line(out, b"refused ", cause, line),
+    }
 }
 
 // The bytes of `from` at the front of out, if they fit.
@@ -91,5 +64,5 @@ pub fn listing(text: &[u8], out: &mut [u8]) -> Result<usize, Trouble>
     let mut buffer = [0u8; LONGEST];
     let mut whole = Writer::new(&mut buffer);
     list_into(&mut whole, text);
-    hand_over(out, whole.text())
+    hand_over(out, whole.written())
 }

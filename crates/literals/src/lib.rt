@@ -18,6 +18,7 @@ pub struct Got<T> {
 }
 
 // The byte at i, 0 past the end.
+// Kept: a byte in place of an `Option`, since the definitions read a text so (`get_or t i 0`), and each caller asks just whether it is one of the grammar's.
 pub fn at(text: &[u8], i: usize) -> u8
     ensures { result ≡ get_or text.now i 0 }
 {

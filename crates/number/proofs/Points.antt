@@ -1,28 +1,10 @@
--- The point operations by the cases that the code takes. Assumes nothing.
-use Rattle.std.proofs.Common.{◌≡◌, ◌^◌, ◌<◌, ℤ, pos, negsuc, ◌+ℤ◌, ◌-ℤ◌, ◌*ℤ◌, neg_ℤ, ◌≤ℤ◌, ◌<ℤ◌, sym, refl, ap, ◌∙◌, to_z-of_z, w64, SFits}
+-- The numbers beside a number, and a sum and a difference as the machine hands them on. Assumes nothing.
+use Rattle.std.proofs.Common.{◌≡◌, ◌^◌, ◌<◌, ℤ, pos, ◌+ℤ◌, ◌-ℤ◌, ◌∙◌, to_z-of_z, w64, SFits}
 use lib.IntN.{suc_ℤ, pred_ℤ}
-use lib.Signed.{mag, rem_z}
-use Rattle.meaning.specs.Number.{MIN, wrap, negative, absolute, sum, difference}
-use Rattle.laws.proofs.Integers.{zarith, up_neg, down_neg, add_parts, sub_parts, suc_parts, pred_parts, up_rem, down_rem}
-use Rattle.laws.proofs.Machine.{rd, num, ok, fits_out}
-use Rattle.laws.proofs.Wrapping.{wrap_id}
-
-pub abs_neg : {x : ℤ} → x <ℤ pos 0 → negative x ≡ absolute x
-unfolding negative absolute
-abs_neg {x = pos n} h = omega zarith
-abs_neg {x = negsuc n} h = refl
-
-pub abs_pos : {x : ℤ} → SFits w64 x → pos 0 ≤ℤ x → x ≡ absolute x
-unfolding absolute
-abs_pos {x = pos n} f h = sym (wrap_id (pos n) f)
-abs_pos {x = negsuc n} f h = omega zarith
-
--- by −1
-pub rem_minus : (x : ℤ) {y : ℤ} → y ≡ negsuc 0 → pos 0 ≡ rem_z x y
-rem_minus x {y} e = at x ∙ ap (rem_z x) (sym e)
-  where
-    at : (x : ℤ) → pos 0 ≡ rem_z x (negsuc 0)
-    at x = omega (zarith, up_rem x (negsuc 0), down_rem x (negsuc 0))
+use lib.Signed.{mag}
+use Rattle.meaning.specs.Number.{wrap, sum, difference}
+use Rattle.laws.proofs.Integers.{zarith, add_parts, sub_parts, suc_parts, pred_parts}
+use Rattle.laws.proofs.Machine.{rd, ok}
 
 -- the numbers beside x
 pub add_one_is : (x : ℤ) → x +ℤ pos 1 ≡ suc_ℤ x
@@ -31,12 +13,7 @@ add_one_is x = omega (zarith, add_parts x (pos 1), suc_parts x)
 pub sub_one_is : (x : ℤ) → x -ℤ pos 1 ≡ pred_ℤ x
 sub_one_is x = omega (zarith, sub_parts x (pos 1), pred_parts x)
 
--- what a call gives, as the machine hands it on
-module _ {x r : ℤ} (f : SFits w64 x) (h : mag r < 2 ^ 63) where
-  pub neg_gives : MIN <ℤ x → r ≡ negative (rd x) → rd r ≡ neg_ℤ x
-  unfolding negative
-  neg_gives k e = to_z-of_z (ok h) ∙ e ∙ ap negative (to_z-of_z f) ∙ wrap_id (neg_ℤ x) (fits_out _ (omega (zarith, num f, up_neg x, down_neg x)))
-
+-- what `add` and `sub` give, as the machine hands it on
 module _ {x y r : ℤ} (f : SFits w64 x) (g : SFits w64 y) (h : mag r < 2 ^ 63) where
   pub add_gives : r ≡ sum (rd x) (rd y) → rd r ≡ wrap (x +ℤ y)
   unfolding sum
@@ -45,6 +22,3 @@ module _ {x y r : ℤ} (f : SFits w64 x) (g : SFits w64 y) (h : mag r < 2 ^ 63) 
   pub sub_gives : r ≡ difference (rd x) (rd y) → rd r ≡ wrap (x -ℤ y)
   unfolding difference
   sub_gives e = to_z-of_z (ok h) ∙ e ∙ (λ i. wrap (to_z-of_z f i -ℤ to_z-of_z g i))
-
-  pub mul_gives : r ≡ wrap (rd x *ℤ rd y) → rd r ≡ wrap (x *ℤ y)
-  mul_gives e = to_z-of_z (ok h) ∙ e ∙ (λ i. wrap (to_z-of_z f i *ℤ to_z-of_z g i))

@@ -7,27 +7,28 @@ ghost use Rattle.meaning.specs.Number as point;
 
 pub use truth::{and, as_bool, le, lt, ne, not, or};
 pub use words::{MAX, MIN, ONE, neg};
-use words::{bits, milli, of_bits, quot, wrapping_mul};
+use words::{milli, quot, wrapping_mul};
 
 // The magnitude of x; that of MIN is MIN.
+// Kept: this, `add`, `sub`, `next` and `prev` are point operations by name, a method of the library each, and say what it gives in the words of `meaning`.
 pub fn abs(x: i64) -> i64
     ensures { result ≡ point.absolute x }
 {
-    if x < 0 { neg(x) } else { x }
+    x.wrapping_abs()
 }
 
 // The sum of x and y, wrapped.
 pub fn add(x: i64, y: i64) -> i64
     ensures { result ≡ point.sum x y }
 {
-    of_bits(std::num::wrapping_add_u64(bits(x), bits(y)))
+    x.wrapping_add(y)
 }
 
 // The difference of x and y, wrapped.
 pub fn sub(x: i64, y: i64) -> i64
     ensures { result ≡ point.difference x y }
 {
-    of_bits(std::num::wrapping_sub_u64(bits(x), bits(y)))
+    x.wrapping_sub(y)
 }
 
 // The product of x and y as thousandths: wrapped, then divided by ONE.
@@ -55,7 +56,7 @@ pub fn rem(x: i64, y: i64) -> Option<i64>
     if y == 0 {
         None
     } else {
-        if y == -1 { Some(0) } else { Some(x % y) }
+        Some(x.wrapping_rem(y))
     }
 }
 
@@ -63,22 +64,12 @@ pub fn rem(x: i64, y: i64) -> Option<i64>
 pub fn next(x: i64) -> Option<i64>
     ensures { result ≡ point.next x }
 {
-    if x < MAX {
-        let after = x + 1;
-        Some(after)
-    } else {
-        None
-    }
+    x.checked_add(1)
 }
 
 // The number before x; there is none before MIN.
 pub fn prev(x: i64) -> Option<i64>
     ensures { result ≡ point.prev x }
 {
-    if MIN < x {
-        let before = x - 1;
-        Some(before)
-    } else {
-        None
-    }
+    x.checked_sub(1)
 }

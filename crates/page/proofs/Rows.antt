@@ -1,119 +1,101 @@
--- The rows of the marked registers: register by register, and their text. Assumes nothing.
-use mathlib.Core.Path.{◌≡◌, refl, sym, ap, subst, ◌∙◌}
-use mathlib.Core.Bool.{Bool, true, false}
+-- The rows of the registers that are shown: how many there are, and their text. Assumes nothing.
+use mathlib.Core.Path.{◌≡◌, refl, sym, ap, ◌∙◌}
+use mathlib.Core.Bool.{true, false}
 use mathlib.Core.List.{List, [], ◌∷◌, ◌++◌, append_assoc}
 use Prim.Native.Nat.{ℕ, zero, suc, ◌+◌, ◌-◌, ◌*◌, ◌/◌, ◌≤◌, ◌<◌}
 use native.Mathlib.Omega.{arith}
-use native.Mathlib.Numerals.{add-one}
-use lib.IntN.{ℤ, pos}
-use lib.ListN.{length, get_or, take, drop, length-append, length-take}
+use lib.IntN.{ℤ}
+use lib.ListN.{length, get_or, length-append}
+use Rattle.std.specs.Prelude.{Option, Some, None}
 use Rattle.meaning.specs.Lists.{All}
 use Rattle.meaning.specs.Bytes.{LF}
-use Rattle.meaning.specs.NumberIntervals.{Normal, intervals}
+use Rattle.meaning.specs.NumberIntervals.{Set, Normal, flat, intervals}
 use Rattle.meaning.specs.Sheet.{registers}
-use Rattle.meaning.specs.Check.{slot_size, count_in, set_in, interval_limit}
-use Rattle.laws.proofs.Integers.{if_yes, if_no, cond_case}
-use Rattle.laws.proofs.Flat.{length_intervals}
-use Rattle.decimal.specs.declared.Writer.{Writer}
-use Rattle.decimal.specs.Written.{Fits, Appends}
-use Rattle.decimal.proofs.Partly.{Partly, partly_as, partly_fits, partly_next, partly_done}
+use Rattle.meaning.specs.Check.{at, interval_limit}
 use Rattle.meaning.specs.Page.{Row, set_rows, row_line, rows_text}
-use Rattle.laws.proofs.PageColumns.{Roomy}
 use Rattle.laws.proofs.All.{all_append}
+use Rattle.laws.proofs.Flat.{intervals_flat, length_flat}
+use Rattle.laws.proofs.PageColumns.{Roomy}
 use Rattle.laws.proofs.PageReadBack.{length_rows, length_text, set_roomy}
-use Rattle.page.specs.Marked.{own_rows, marked_rows, Shows}
+use Rattle.set_values.specs.declared.form_set.FormSet.{FormSet}
+use Rattle.set_values.specs.Value.{set_of, sets_of}
+use Rattle.listed.specs.declared.Shown.{Shown}
+use Rattle.listed.specs.Showing.{if_shown, shown, piece, pieces, whole}
+use Rattle.listed.proofs.Showing.{pieces_step, pieces_none}
 
-pub text_append : (a b : List Row) → rows_text (a ++ b) ≡ rows_text a ++ rows_text b
+-- the text of a register's rows
+abbrev pub lines_of : ℕ → Set → List ℕ
+lines_of r s = rows_text (set_rows r s)
+
+-- ---- the text of all rows
+
+text_append : (a b : List Row) → rows_text (a ++ b) ≡ rows_text a ++ rows_text b
 unfolding rows_text
 text_append [] b = refl
 text_append (w ∷ a) b = ap (λ (l : List ℕ). row_line w ++ LF ∷ l) (text_append a b) ∙ sym (append_assoc (row_line w) (LF ∷ rows_text a) (rows_text b))
 
-module _ (m : List Bool) (l : List ℤ) where
-  pub own_yes : (r : ℕ) (e : List ℤ) → get_or m r false ≡ true → e ≡ take (2 * count_in (get_or l (slot_size * r) (pos 0))) (drop (slot_size * r + 1) l) → set_rows r (intervals e) ≡ own_rows m l r
-  unfolding own_rows set_in
-  own_yes r e t h = ap (λ (x : List ℤ). set_rows r (intervals x)) h ∙ if_yes _ _ t
+piece_text : (r : ℕ) (o : Option Set) → rows_text (piece set_rows r o) ≡ piece lines_of r o
+unfolding rows_text
+piece_text r (Some s) = refl
+piece_text r None = refl
 
-  pub own_no : (r : ℕ) → get_or m r false ≡ false → [] ≡ own_rows m l r
-  unfolding own_rows
-  own_no r t = if_no _ _ t
+pieces_text : (s : Shown) (n r : ℕ) → rows_text (pieces set_rows s r n) ≡ pieces lines_of s r n
+unfolding rows_text pieces
+pieces_text s zero r = refl
+pieces_text s (suc n) r =
+    text_append (piece set_rows r (shown s r)) (pieces set_rows s (suc r) n) ∙ (λ i. piece_text r (shown s r) i ++ pieces_text s n (suc r) i)
 
-  pub rows_step : (r : ℕ) → r < registers → marked_rows m l r (registers - r) ≡ own_rows m l r ++ marked_rows m l (r + 1) (registers - (r + 1))
-  unfolding marked_rows
-  rows_step r h =
-      let e : registers - r ≡ suc (registers - (r + 1)) = omega arith in
-      ap (marked_rows m l r) e ∙ ap (λ (q : ℕ). own_rows m l r ++ marked_rows m l q (registers - (r + 1))) (sym (add-one r))
+pub whole_text : (s : Shown) → rows_text (whole set_rows s) ≡ whole lines_of s
+whole_text s = pieces_text s registers 0
 
-  pub rows_end : (r : ℕ) → registers ≤ r → marked_rows m l r (registers - r) ≡ []
-  unfolding marked_rows
-  rows_end r h = let e : registers - r ≡ 0 = omega arith in ap (marked_rows m l r) e
+-- ---- how long it is
 
-  module _ (shows : Shows l) where
-    own_roomy : (r : ℕ) → r < registers → All Roomy (own_rows m l r)
-    unfolding own_rows
-    own_roomy r h = cond_case (All Roomy) (get_or m r false) (set_rows r (set_in l r)) [] (λ _. set_roomy r (set_in l r) (omega arith) (shows.normal r h)) (λ _. tt)
+piece_roomy : (s : Shown) (r : ℕ) → r < registers → All Roomy (piece set_rows r (shown s r))
+piece_roomy s r h = elim (get_or s.marks r false) as (λ b. All Roomy (piece set_rows r (if_shown b (at (sets_of s.registers) r)))) [
+  | true ↦ set_roomy r (at (sets_of s.registers) r) (omega arith) (s.registers.slots.each r).normal
+  | false ↦ tt
+]
 
-    pub marked_roomy : (r n : ℕ) → r + n ≤ registers → All Roomy (marked_rows m l r n)
-    unfolding marked_rows
-    marked_roomy r zero h = tt
-    marked_roomy r (suc n) h = all_append Roomy (own_rows m l r) (marked_rows m l (suc r) n) (own_roomy r (omega arith)) (marked_roomy (suc r) n (omega arith))
+pieces_roomy : (s : Shown) (n r : ℕ) → r + n ≤ registers → All Roomy (pieces set_rows s r n)
+unfolding pieces
+pieces_roomy s zero r h = tt
+pieces_roomy s (suc n) r h = all_append Roomy (piece set_rows r (shown s r)) (pieces set_rows s (suc r) n) (piece_roomy s r (omega arith)) (pieces_roomy s n (suc r) (omega arith))
 
-    pub page_size : length (rows_text (marked_rows m l 0 registers)) ≡ 73 * length (marked_rows m l 0 registers)
-    page_size = length_text (marked_rows m l 0 registers) (marked_roomy 0 registers (omega arith))
+pub page_size : (s : Shown) → length (whole lines_of s) ≡ 73 * length (whole set_rows s)
+page_size s = ap length (sym (whole_text s)) ∙ length_text (whole set_rows s) (pieces_roomy s registers 0 (omega arith))
 
-    pub own_size : (r : ℕ) → r < registers → length (rows_text (own_rows m l r)) ≡ 73 * length (own_rows m l r)
-    own_size r h = length_text (own_rows m l r) (own_roomy r h)
+-- ---- of one register
 
-  -- ---- counting
+module _ (set : FormSet) where
+  pub set_few : length (set_of set) ≤ interval_limit
+  set_few = let h = set.held in omega (arith, h.counted, h.few)
 
-  pub count_next : (r n k : ℕ) → r < registers → k ≡ length (own_rows m l r)
-      → n + length (marked_rows m l r (registers - r)) ≡ length (marked_rows m l 0 registers)
-      → n + k + length (marked_rows m l (r + 1) (registers - (r + 1))) ≡ length (marked_rows m l 0 registers)
-  count_next r n k h e f =
-      let p = ap length (rows_step r h) in
-      omega (arith, p, length-append (own_rows m l r) (marked_rows m l (r + 1) (registers - (r + 1))))
+  module _ {ends : List ℤ} (e : ends ≡ flat (set_of set)) where
+    pub ends_are : intervals ends ≡ set_of set
+    ends_are = ap intervals e ∙ intervals_flat (set_of set)
 
-  -- ---- writing: the registers below r are written
+    pub ends_normal : Normal (intervals ends)
+    ends_normal = rw ends_are set.held.normal
 
-  abbrev pub Pages : ℕ → Writer → Writer → Type 0
-  Pages r new old = Partly (rows_text (marked_rows m l 0 registers)) (rows_text (marked_rows m l r (registers - r))) new old
+    pub ends_count : (r : ℕ) → length ends / 2 ≡ length (set_rows r (set_of set))
+    ends_count r = omega (arith, ap length e, length_flat (set_of set), length_rows r (set_of set))
 
-  module _ {r : ℕ} {new old : Writer} (p : Pages r new old) (h : r < registers) where
-    abbrev rest : List ℕ
-    rest = rows_text (marked_rows m l (r + 1) (registers - (r + 1)))
+    pub ends_fit : (r : ℕ) → r < registers → 73 * length (intervals ends) ≡ length (lines_of r (set_of set))
+    ends_fit r h = omega (arith, ap length ends_are, length_rows r (set_of set), length_text (set_rows r (set_of set)) (set_roomy r (set_of set) (omega arith) set.held.normal))
 
-    turned : Partly (rows_text (marked_rows m l 0 registers)) (rows_text (own_rows m l r) ++ rest) new old
-    turned = partly_as (ap rows_text (rows_step r h) ∙ text_append (own_rows m l r) (marked_rows m l (r + 1) (registers - (r + 1)))) p
+-- ---- counting
 
-    pub pages_fits : Fits (rows_text (marked_rows m l 0 registers)) old → Fits (rows_text (own_rows m l r)) new
-    pages_fits f = partly_fits (rows_text (own_rows m l r)) rest turned f
+-- with the rows of the registers below r counted
+pub record Counted (s : Shown) (r n : ℕ) : Type 0 where
+  pub few : n ≤ interval_limit * r
+  pub same : n + length (pieces set_rows s r (registers - r)) ≡ length (whole set_rows s)
 
-    pub pages_next : {n : Writer} → Appends (rows_text (own_rows m l r)) n new → Pages (r + 1) n old
-    pages_next w = partly_next (rows_text (own_rows m l r)) rest turned w
+module _ (s : Shown) (r : ℕ) {n : ℕ} (k : Counted s r n) where
+  pub counted_next : r < registers → {o : Option Set} → o ≡ shown s r → (m : ℕ) → m ≤ interval_limit → m ≡ length (piece set_rows r o) → {n' : ℕ} → n' ≡ n + m → Counted s (r + 1) n'
+  counted_next h e m few p q = record {
+    few = omega (arith, k.few);
+    same = omega (arith, k.same, ap length (pieces_step set_rows s r h), length-append (piece set_rows r (shown s r)) (pieces set_rows s (r + 1) (registers - (r + 1))), ap (λ (o : Option Set). length (piece set_rows r o)) e);
+  }
 
-    pub pages_none : [] ≡ own_rows m l r → Pages (r + 1) new old
-    unfolding rows_text
-    pages_none e = partly_as (ap (λ (x : List Row). rows_text x ++ rest) (sym e)) turned
-
-  pub pages_done : {r : ℕ} {new old : Writer} → registers ≤ r → Pages r new old → Appends (rows_text (marked_rows m l 0 registers)) new old
-  unfolding rows_text
-  pages_done {r} h p = partly_done (partly_as (ap rows_text (rows_end r h)) p)
-
--- ---- a register's ends, as the code takes them from the numbers
-
-module _ (m : List Bool) (l : List ℤ) (shows : Shows l) (r : ℕ) (h : r < registers) {e : List ℤ} (t : get_or m r false ≡ true)
-    (is : e ≡ take (2 * count_in (get_or l (slot_size * r) (pos 0))) (drop (slot_size * r + 1) l)) where
-  pub ends_count : length e / 2 ≡ length (own_rows m l r)
-  ends_count = sym (length_intervals e) ∙ sym (length_rows r (intervals e)) ∙ ap length (own_yes m l r e t is)
-
-  pub ends_few : length e / 2 ≤ interval_limit
-  ends_few = omega (arith, ap length is, length-take (2 * count_in (get_or l (slot_size * r) (pos 0))) (drop (slot_size * r + 1) l), shows.few.few r h)
-
-  pub ends_normal : Normal (intervals e)
-  unfolding set_in
-  ends_normal = subst (λ (x : List ℤ). Normal (intervals x)) (sym is) (shows.normal r h)
-
-  pub ends_fit : (at n : ℕ) → at + length (rows_text (own_rows m l r)) ≤ n → at + 73 * length (intervals e) ≤ n
-  ends_fit at n k = omega (arith, own_size m l shows r h, ends_count, length_intervals e)
-
-  pub ends_text : rows_text (set_rows r (intervals e)) ≡ rows_text (own_rows m l r)
-  ends_text = ap rows_text (own_yes m l r e t is)
+  pub counted_all : registers ≤ r → n ≡ length (whole set_rows s)
+  counted_all h = omega (arith, k.same, ap length (pieces_none set_rows s r h))

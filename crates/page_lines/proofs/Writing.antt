@@ -1,6 +1,5 @@
 -- What the parts of a line come to, in the words of the code. Assumes nothing.
 use lib.IntN.{ℤ, pos, ◌-ℤ◌, ◌+ℤ◌}
-use lib.Signed.{◌≤ℤ◌}
 use lib.ListN.{length, drop, length-append}
 use mathlib.Core.Path.{◌≡◌, refl, sym, ap, subst, ◌∙◌}
 use mathlib.Core.List.{List, [], ◌∷◌, ◌++◌, append_assoc}
@@ -11,16 +10,12 @@ use Rattle.meaning.specs.Bytes.{bytes}
 use Rattle.meaning.specs.Interval.{Proper}
 use Rattle.meaning.specs.NumberIntervals.{Set, Normal, intervals}
 use Rattle.meaning.specs.Listing.{digits_before, decimal, decimal_z}
-use mir.Syntax.{w64}
-use mir.Val.{SFits}
-use Rattle.laws.proofs.Integers.{zarith}
-use Rattle.laws.proofs.Machine.{num, rd, rd_fits, fits_range}
 use Rattle.laws.proofs.Decimals.{decimal_most}
 use Rattle.meaning.specs.Page.{member_count, row, set_rows, blanks, left_set, right_set, row_line, rows_text}
-use Rattle.decimal.specs.declared.Writer.{Writer}
-use Rattle.decimal.specs.Written.{Fits, Appends}
-use Rattle.decimal.proofs.Partly.{partly_start}
-use Rattle.decimal.proofs.Pairs.{first, second, pair_at, IsEach, Paired, pair_fits, pair_next, pairs_done}
+use Rattle.writer.specs.declared.Writer.{Writer}
+use Rattle.writer.specs.Written.{Fits, Appends}
+use Rattle.writer.proofs.Partly.{partly_start}
+use Rattle.writer.proofs.Pairs.{first, second, pair_at, IsEach, Paired, pair_fits, pair_next, pairs_done}
 use Rattle.page_lines.specs.Parts.{interval_line}
 use Rattle.laws.proofs.PageColumns.{length_line}
 use Rattle.laws.proofs.PageReadBack.{length_rows, length_text, row_roomy, set_roomy}
@@ -62,19 +57,8 @@ pub line_is : (r : ℕ) (lo hi : ℤ)
 unfolding interval_line row_line
 line_is r lo hi = simp append_assoc
 
--- what is passed on as the machine's own copy of the ends is the same text
-pub line_as : (r : ℕ) {a b c d : ℤ} → a ≡ c → b ≡ d → interval_line r a b ≡ interval_line r c d
-line_as r p q i = interval_line r (p i) (q i)
-
 pub set_size : (r : ℕ) (s : Set) → r < 100 → Normal s → length (rows_text (set_rows r s)) ≡ 73 * length s
 set_size r s h n = length_text (set_rows r s) (set_roomy r s h n) ∙ ap (λ (k : ℕ). 73 * k) (length_rows r s)
-
--- two ends in order, as the machine's own copies
-pub proper : {lo hi : ℤ} → SFits w64 lo → SFits w64 hi → lo ≤ℤ hi → Proper (rd lo) (rd hi)
-proper f g h =
-    let a = fits_range (rd_fits f) in
-    let b = fits_range (rd_fits g) in
-    record { low = a.above; ordered = omega (zarith, num f, num g); high = b.below }
 
 -- ---- line by line
 
@@ -91,18 +75,18 @@ each_line r = record { none = none; more = λ lo hi l. sym (append_assoc (row_li
     none (a ∷ b ∷ l) h = absurd (omega arith)
 
 -- with k of the intervals written, the others are normal too
-pub record Lined (r : ℕ) (ends : List ℤ) (k : ℕ) (new old : Writer) : Type 0 where
+pub record Lined (r : ℕ) (ends : List ℤ) (k : ℕ) (new old : Writer ℕ) : Type 0 where
   pub small : r < 100
   pub normal : Normal (intervals (drop (2 * k) ends))
   pub room : Fits (lines_of r ends) old
   pub paired : Paired (lines_of r) ends k new old
 
-pub lined_start : (r : ℕ) (ends : List ℤ) (w : Writer) → r < 100 → Normal (intervals ends) → w.len + 73 * length (intervals ends) ≤ length w.room.now → Lined r ends 0 w w
+pub lined_start : (r : ℕ) (ends : List ℤ) (w : Writer ℕ) → r < 100 → Normal (intervals ends) → w.len + 73 * length (intervals ends) ≤ length w.room.now → Lined r ends 0 w w
 lined_start r ends w h n k =
     let f : Fits (lines_of r ends) w = omega (arith, set_size r (intervals ends) h n) in
     record { small = h; normal = n; room = f; paired = partly_start (lines_of r ends) w f }
 
-module _ {r : ℕ} {ends : List ℤ} {k : ℕ} {new old : Writer} (l : Lined r ends k new old) where
+module _ {r : ℕ} {ends : List ℤ} {k : ℕ} {new old : Writer ℕ} (l : Lined r ends k new old) where
   module _ {x : List (List ℤ)} (e : x ≡ first_chunks 2 (length ends / 2) ends) (n : length x ≡ length ends / 2) (h : k < length x) {lo hi : ℤ} (is_lo : lo ≡ first x k) (is_hi : hi ≡ second x k) where
     turned : Normal (intervals (lo ∷ hi ∷ drop (2 * (k + 1)) ends))
     turned = subst (λ (d : List ℤ). Normal (intervals d)) (pair_at ends k e (omega arith) ∙ sym (λ i. is_lo i ∷ is_hi i ∷ drop (2 * (k + 1)) ends)) l.normal
@@ -114,7 +98,7 @@ module _ {r : ℕ} {ends : List ℤ} {k : ℕ} {new old : Writer} (l : Lined r e
     pub lined_room : new.len + 73 ≤ length new.room.now
     lined_room = omega (arith, pair_fits (each_line r) ends k l.paired e n h is_lo is_hi l.room, line_73 r l.small lined_proper)
 
-    pub lined_next : {m : Writer} → Appends (interval_line r lo hi) m new → Lined r ends (k + 1) m old
+    pub lined_next : {m : Writer ℕ} → Appends (interval_line r lo hi) m new → Lined r ends (k + 1) m old
     unfolding intervals
     lined_next w = record { small = l.small; normal = turned.2; room = l.room; paired = pair_next (each_line r) ends k l.paired e n h is_lo is_hi w }
 

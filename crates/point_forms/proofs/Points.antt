@@ -11,7 +11,8 @@ use Rattle.meaning.specs.Run.{value_of}
 use Rattle.laws.proofs.Integers.{between_within}
 use Rattle.laws.proofs.Fusion.{fuse_arg}
 use Rattle.literals.specs.Answer.{kept}
-use Rattle.point_forms.specs.Answer.{with1, with2, points, put_value}
+use Rattle.forms.specs.Answer.{put_value}
+use Rattle.point_forms.specs.Answer.{with1, with2, points}
 
 -- the fold of a tree that the evaluator is
 unfoldable pub folded : List ℤ → Form → Res ℤ

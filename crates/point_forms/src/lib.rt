@@ -1,19 +1,18 @@
 // The value of a form in a run: point values straight from the bytes, with no tree between.
 #![tactic(auto)]
 
-ghost use Rattle.std.specs.Prelude.{◌≡◌, ℤ, drop};
+ghost use Rattle.std.specs.Prelude.{◌≡◌, ℤ};
 ghost use Rattle.meaning.specs.Outcome.{Res};
 ghost use Rattle.meaning.specs.Number.{point1, point2};
-ghost use Rattle.meaning.specs.Reading.{arg as arg_at};
 ghost use Rattle.forms.specs.Answer.{op1_of, op2_of};
-ghost use Rattle.point_forms.specs.Answer.{res_of, points, put_value};
+ghost use Rattle.point_forms.specs.Answer.{res_of, points};
 
-use forms::{Algebra, Op1, Op2, read_arg};
-use limits::{INNER, REGISTERS};
-use literals::tail;
+use forms::{Algebra, Op1, Op2};
+use limits::REGISTERS;
 use refusals::Cause;
 
 // An operation of one argument on a number.
+// Kept: here and below a row for each operation, since it is a value read from a text, and each row is one call of its own.
 #[tactic(auto, unfolding(meaning::specs::Number::point1))]
 fn unary(op: Op1, x: i64) -> i64
     ensures { result ≡ point1 (op1_of op) x }
@@ -46,8 +45,8 @@ fn binary(op: Op2, x: i64, y: i64) -> Option<i64>
 
 // What forms come to where the registers hold these numbers.
 #[derive(Clone, Copy)]
-struct Values<'a> {
-    state: &'a [i64; REGISTERS],
+pub struct Values<'a> {
+    pub state: &'a [i64; REGISTERS],
 }
 
 impl Algebra for Values<'_> {
@@ -79,13 +78,4 @@ impl Algebra for Values<'_> {
     fn two(&mut self, op: Op2, a: Result<i64, Cause>, b: Result<i64, Cause>) -> Result<i64, Cause> {
         binary(op, a?, b?).ok_or(Cause::ZeroDivisor)
     }
-}
-
-// The value of the form that starts at j.
-pub fn value_at(text: &[u8], j: usize, state: &[i64; REGISTERS]) -> Result<i64, Cause>
-    ensures { res_of result ≡ put_value (arg_at (points state.now) 7 (drop j text.now)) }
-{
-    read_arg(tail(text, j), INNER, &mut Values { state })
-        .ok_or(Cause::Ungrammatical)?
-        .value
 }

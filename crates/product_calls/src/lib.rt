@@ -1,5 +1,6 @@
-// The set calls whose answer holds at least the point results: mul, div and rem. A set is the ends of its intervals in a slice, its flag beside it; `number_intervals` says which
-// slices are sets. Special is a divisor that holds 0, which sets the flag if the left set has a member.
+// The set calls whose answer holds at least the point results: mul, div and rem. A set is the ends of its intervals in a slice, its flag
+// beside it; `number_intervals` says which slices are sets. Special is a divisor that holds 0, which sets the flag if the left set has a member.
+// Kept: a function for each operation, since C, Rust and Python call each by a name of its own; what they share is `joined`.
 #![tactic(auto)]
 
 ghost use Rattle.meaning.specs.Number as point;

@@ -3,65 +3,53 @@
 
 ghost use Rattle.std.specs.Prelude.{◌≡◌};
 ghost use Rattle.refusals.specs.Numbers.{number_of, Numbered};
+ghost use Rattle.refusals.specs.declared.Trouble.TheVariants.{Refused};
 
-// A row of the table.
+// A row of the table, with its number.
 #[derive(Clone, Copy, Debug, PartialEq, Eq)]
 pub enum Cause {
     // A set: odd length or not normal.
-    NotNormal,
+    NotNormal = 1,
 
     // A set: over 16 intervals.
-    TooMany,
+    TooMany = 2,
 
     // A lent slice is shorter than its call needs.
-    TooShort,
+    TooShort = 3,
 
     // An answer is longer than out.
-    NoRoom,
+    NoRoom = 4,
 
     // A text: over 256 lines, a line over 120 bytes, the last LF missing.
-    Misshapen,
+    Misshapen = 5,
 
     // A line: outside the grammar.
-    Ungrammatical,
+    Ungrammatical = 6,
 
     // A line: a literal beyond MIN..MAX.
-    FarLiteral,
+    FarLiteral = 7,
 
     // A line: `in` after another kind, or a second one for a register.
-    Misplaced,
+    Misplaced = 8,
 
     // Nearest, within: the set is empty.
-    EmptySet,
+    EmptySet = 10,
 
     // Check and run: a divisor may be 0, or is 0.
-    ZeroDivisor,
+    ZeroDivisor = 20,
 
     // Check and run: a hold's register has a value outside.
-    HoldBroken,
+    HoldBroken = 21,
 
     // The run: a lent number is outside its `in`.
-    OutsideIn,
+    OutsideIn = 22,
 }
 
 impl From<Cause> for u8 {
     ghost from_gives = { λ cause number. number ≡ number_of cause };
 
     fn from(cause: Cause) -> u8 {
-        match cause {
-            Cause::NotNormal => 1,
-            Cause::TooMany => 2,
-            Cause::TooShort => 3,
-            Cause::NoRoom => 4,
-            Cause::Misshapen => 5,
-            Cause::Ungrammatical => 6,
-            Cause::FarLiteral => 7,
-            Cause::Misplaced => 8,
-            Cause::EmptySet => 10,
-            Cause::ZeroDivisor => 20,
-            Cause::HoldBroken => 21,
-            Cause::OutsideIn => 22,
-        }
+        cause as u8
     }
 }
 
@@ -94,8 +82,18 @@ impl TryFrom<u8> for Cause {
 }
 
 // What ends a call on a text, and at which line: a refusal of its arguments or its text, or what stops a line that is worked. Line 0 is the whole text or the lent slices.
+// Kept: a line 0 and no variant without a line, since C reads each line as a number and 0 as the whole.
 #[derive(Clone, Copy, Debug, PartialEq, Eq)]
 pub enum Trouble {
     Refused(Cause, usize),
     Stopped(Cause, usize),
+}
+
+// A refusal of the whole text or of the lent slices.
+impl From<Cause> for Trouble {
+    ghost from_gives = { λ cause trouble. trouble ≡ Refused cause 0 };
+
+    fn from(cause: Cause) -> Self {
+        Trouble::Refused(cause, 0)
+    }
 }

@@ -1,26 +1,28 @@
 -- Rules (d), (e) and (f) of rem by the tests that the code makes. Assumes nothing.
 use borrow.Author.Tests.{le-leb, lt-leb, eq-eqb, ne_eqb}
-use lib.IntN.{ℤ, pos, neg_ℤ, nat_abs, ◌-ℤ◌}
+use lib.IntN.{ℤ, pos, neg_ℤ, ◌-ℤ◌}
 use lib.ListN.{length}
-use lib.Signed.{lt_z, ◌≤ℤ◌, ≤ℤ_refl}
+use lib.Signed.{lt_z, ≤ℤ_refl}
 use mathlib.Core.Logic.{◌≢◌}
-use mathlib.Core.Path.{◌≡◌, refl, sym, ap, ap₂, ◌∙◌}
+use mathlib.Core.Path.{◌≡◌, refl, sym, ap, ◌∙◌}
 use mathlib.Core.Bool.{Bool, true, false, cond}
-use mathlib.Core.List.{[], ◌++◌, append-nil}
+use mathlib.Core.List.{List, [], ◌++◌, append-nil}
 use Prim.Native.Nat.{ℕ, ◌-◌, ◌*◌, ◌/◌, ◌%◌, ◌^◌, ◌≤◌, ◌<◌}
 use native.Mathlib.Omega.{arith}
 use mir.Syntax.{w64}
 use mir.Val.{SFits}
 use mir.Facts.{to_z-of_z}
 use Rattle.meaning.specs.Number.{MIN, within}
-use Rattle.meaning.specs.Interval.{span, only, against, least_magnitude, greatest_magnitude, signed_span, rem_magnitudes, rule_f}
+use Rattle.meaning.specs.Interval.{Interval, span, only, against, least_magnitude, greatest_magnitude, signed_span, rem_magnitudes, rule_f}
 use Rattle.meaning.specs.NumberIntervals.{flat}
 use Rattle.laws.proofs.Integers.{zarith, cond_case, one_part, abs_parts, sub_parts, up_neg, down_neg}
 use Rattle.laws.proofs.Machine.{rd, num}
 use Rattle.laws.proofs.Members.{between}
 use Rattle.laws.proofs.Parts.{one_sign}
 use Rattle.laws.proofs.RemainderRules.{magnitudes, magnitudes_case}
-use Rattle.slices.proofs.Lent.{first_room}
+use Rattle.interval.specs.declared.divisor.Divisor.{Divisor}
+use Rattle.rem_rules.specs.declared.Magnitudes.{Magnitudes}
+use Rattle.slices.proofs.Behind.{length_flat_append}
 
 -- ---- L against {MIN}
 
@@ -53,77 +55,102 @@ module _ (s e : ℤ) where
       (λ _. cond_case (λ l. length (flat l) ≡ 2) (lt_z MIN e) (span MIN (pos 0)) (only (pos 0)) (λ _. refl) (λ _. refl))
       (λ _. refl)
 
-  pub against_room : {n : ℕ} → length (flat (against s e)) ≤ n → 2 ≤ n
-  against_room h = omega (arith, against_two)
-
 -- ---- magnitudes
 
--- least and greatest magnitude of an interval without 0
-pub some_magnitude : {t f : ℤ} → t ≤ℤ f → within t (pos 0) f ≡ false → (0 < least_magnitude t f) × (least_magnitude t f ≤ greatest_magnitude t f) × (0 < greatest_magnitude t f)
-some_magnitude {t} {f} h n = let m = magnitudes (one_sign n) (between (≤ℤ_refl t) h) in omega (arith, m.some)
+-- the magnitudes of two ends, as the machine reads these
+abbrev Read : ℤ → ℤ → ℕ → ℕ → Type 0
+Read s e l g = (l ≡ least_magnitude (rd s) (rd e)) × (g ≡ greatest_magnitude (rd s) (rd e))
 
--- the magnitudes of two ends, as the machine reads them back
-pub magnitudes_read : (g : ℤ → ℤ → ℕ) {n : ℕ} {s e : ℤ} → SFits w64 s → SFits w64 e → n ≡ g (rd s) (rd e) → n ≡ g s e
-magnitudes_read g f h k = k ∙ (λ i. g (to_z-of_z f i) (to_z-of_z h i))
+read_are : {s e : ℤ} {l g : ℕ} → SFits w64 s → SFits w64 e → Read s e l g → (l ≡ least_magnitude s e) × (g ≡ greatest_magnitude s e)
+read_are f h r = (r.0 ∙ (λ i. least_magnitude (to_z-of_z f i) (to_z-of_z h i)), r.1 ∙ (λ i. greatest_magnitude (to_z-of_z f i) (to_z-of_z h i)))
 
-pub magnitude_top : (t f : ℤ) → SFits w64 t → SFits w64 f → greatest_magnitude t f ≤ 2 ^ 63
-magnitude_top t f g h = omega (arith, num g, num h, abs_parts t, abs_parts f, one_part t, one_part f)
-
--- 1 − d
-pub under_is : (d : ℕ) → 0 < d → neg_ℤ (pos (d - 1)) ≡ pos 1 -ℤ pos d
+under_is : (d : ℕ) → 0 < d → neg_ℤ (pos (d - 1)) ≡ pos 1 -ℤ pos d
 under_is d h = omega (zarith, up_neg (pos (d - 1)), down_neg (pos (d - 1)), sub_parts (pos 1) (pos d))
 
--- ---- an interval of magnitudes
+-- those of a divisor's ends
+module _ (d : Divisor) (T : SFits w64 d.numbers.lo) (F : SFits w64 d.numbers.hi) {l g : ℕ} (r : Read d.numbers.lo d.numbers.hi l g) where
+  are : (l ≡ least_magnitude d.numbers.lo d.numbers.hi) × (g ≡ greatest_magnitude d.numbers.lo d.numbers.hi)
+  are = read_are T F r
 
-module _ {negated : Bool} (l h : ℕ) where
-  pub turned : negated ≡ true → span (neg_ℤ (pos h)) (neg_ℤ (pos l)) ≡ signed_span negated l h
-  turned e = rw e
+  some : (0 < least_magnitude d.numbers.lo d.numbers.hi) × (least_magnitude d.numbers.lo d.numbers.hi ≤ greatest_magnitude d.numbers.lo d.numbers.hi)
+  some = let m = magnitudes (one_sign d.no_zero) (between (≤ℤ_refl d.numbers.lo) d.numbers.ordered) in omega (arith, m.some)
 
-  pub kept : negated ≡ false → span (pos l) (pos h) ≡ signed_span negated l h
-  kept e = rw e
+  top : greatest_magnitude d.numbers.lo d.numbers.hi ≤ 2 ^ 63
+  top = let t = d.numbers.lo in let f = d.numbers.hi in omega (arith, num T, num F, abs_parts t, abs_parts f, one_part t, one_part f)
+
+  pub least_some : 0 < l
+  least_some = omega (arith, are.0, some)
+
+  pub greatest_some : 0 < g
+  greatest_some = omega (arith, are.1, some)
+
+  pub greatest_fits : g - 1 < 2 ^ 63
+  greatest_fits = omega (arith, greatest_some, are.1, top)
+
+  -- 1 − d
+  pub under_read : neg_ℤ (pos (g - 1)) ≡ pos 1 -ℤ pos (greatest_magnitude d.numbers.lo d.numbers.hi)
+  under_read = under_is g greatest_some ∙ ap (λ (n : ℕ). pos 1 -ℤ pos n) are.1
+
+  -- rule (f) on the magnitudes that were read
+  pub rule_f_read : {s e : ℤ} {a b : ℕ} → SFits w64 s → SFits w64 e → Read s e a b → rem_magnitudes (lt_z (rd s) (pos 0)) a b l g ≡ rule_f s e d.numbers.lo d.numbers.hi
+  unfolding rule_f
+  rule_f_read f h k i = rem_magnitudes (lt_z (to_z-of_z f i) (pos 0)) ((read_are f h k).0 i) ((read_are f h k).1 i) (are.0 i) (are.1 i)
+
+-- ---- (f)
+
+abbrev Remainders : Bool → Magnitudes → Magnitudes → List Interval → Type 0
+Remainders negated x y l = l ≡ rem_magnitudes negated x.least x.greatest y.least y.greatest
+
+module _ (negated : Bool) (x y : Magnitudes) where
+  pub magnitudes_all : y.greatest ≤ x.greatest - x.least → Remainders negated x y (signed_span negated 0 (y.greatest - 1))
+  unfolding rem_magnitudes
+  magnitudes_all h = rw (le-leb y.greatest (x.greatest - x.least) h)
+
+  module _ (few : x.greatest - x.least < y.greatest) where
+    pub magnitudes_wide : y.least < y.greatest → Remainders negated x y (signed_span negated 0 (y.greatest - 1))
+    unfolding rem_magnitudes
+    magnitudes_wide h = rw (lt-leb y.greatest (x.greatest - x.least) few, ne_eqb y.least y.greatest (λ e. absurd (omega arith)))
+
+    module _ (single : y.greatest ≤ y.least) where
+      one : y.least ≡ y.greatest
+      one = omega (arith, y.ordered)
+
+      pub magnitudes_past : x.greatest / y.least * y.least < x.least → Remainders negated x y (signed_span negated (x.least % y.least) (x.greatest % y.least))
+      unfolding rem_magnitudes
+      magnitudes_past h = rw (lt-leb y.greatest (x.greatest - x.least) few, eq-eqb y.least y.greatest one, lt-leb x.least (x.greatest / y.least * y.least) h)
+
+      pub magnitudes_at : x.least ≡ x.greatest / y.least * y.least → Remainders negated x y (signed_span negated 0 (x.greatest % y.least))
+      unfolding rem_magnitudes
+      magnitudes_at h =
+          rw (lt-leb y.greatest (x.greatest - x.least) few, eq-eqb y.least y.greatest one, le-leb x.least (x.greatest / y.least * y.least) (omega arith), eq-eqb x.least (x.greatest / y.least * y.least) h)
+          (sym (append-nil (signed_span negated 0 (x.greatest % y.least))))
+
+      pub magnitudes_over : x.least < x.greatest / y.least * y.least
+          → Remainders negated x y (signed_span negated 0 (x.greatest % y.least) ++ signed_span negated (x.least % y.least) (y.least - 1))
+      unfolding rem_magnitudes
+      magnitudes_over h =
+          rw (
+            lt-leb y.greatest (x.greatest - x.least) few,
+            eq-eqb y.least y.greatest one,
+            le-leb x.least (x.greatest / y.least * y.least) (omega arith),
+            ne_eqb x.least (x.greatest / y.least * y.least) (λ e. absurd (omega arith)),
+          )
+
+-- ---- room
 
 pub signed_two : (negated : Bool) (l h : ℕ) → length (flat (signed_span negated l h)) ≡ 2
 unfolding flat
 signed_two true l h = refl
 signed_two false l h = refl
 
--- ---- (f)
+first_two : (negated : Bool) (l h : ℕ) (x : List Interval) → 2 ≤ length (flat (signed_span negated l h ++ x))
+first_two negated l h x = omega (arith, signed_two negated l h, length_flat_append (signed_span negated l h) x)
 
-module _ (negated : Bool) (a b c d : ℕ) where
-  pub magnitudes_all : d ≤ b - a → signed_span negated 0 (d - 1) ≡ rem_magnitudes negated a b c d
-  unfolding rem_magnitudes
-  magnitudes_all h = rw (le-leb d (b - a) h)
-
-  pub magnitudes_wide : b - a < d → c < d → signed_span negated 0 (d - 1) ≡ rem_magnitudes negated a b c d
-  unfolding rem_magnitudes
-  magnitudes_wide h k = rw (lt-leb d (b - a) h, ne_eqb c d (λ e. absurd (omega arith)))
-
-  pub magnitudes_past : b - a < d → c ≡ d → b / c * c < a → signed_span negated (a % c) (b % c) ≡ rem_magnitudes negated a b c d
-  unfolding rem_magnitudes
-  magnitudes_past h k l = rw (lt-leb d (b - a) h, eq-eqb c d k, lt-leb a (b / c * c) l)
-
-  pub magnitudes_at : b - a < d → c ≡ d → a ≡ b / c * c → signed_span negated 0 (b % c) ≡ rem_magnitudes negated a b c d
-  unfolding rem_magnitudes
-  magnitudes_at h k l = rw (lt-leb d (b - a) h, eq-eqb c d k, le-leb a (b / c * c) (omega arith), eq-eqb a (b / c * c) l) (sym (append-nil (signed_span negated 0 (b % c))))
-
-  pub magnitudes_over : b - a < d → c ≡ d → a < b / c * c → signed_span negated 0 (b % c) ++ signed_span negated (a % c) (c - 1) ≡ rem_magnitudes negated a b c d
-  unfolding rem_magnitudes
-  magnitudes_over h k l = rw (lt-leb d (b - a) h, eq-eqb c d k, le-leb a (b / c * c) (omega arith), ne_eqb a (b / c * c) (λ e. absurd (omega arith)))
-
-pub rule_f_lem : (s e t f : ℤ) {n : Bool} {a b c d : ℕ} → n ≡ lt_z s (pos 0) → a ≡ least_magnitude s e → b ≡ greatest_magnitude s e → c ≡ least_magnitude t f → d ≡ greatest_magnitude t f
-    → rem_magnitudes n a b c d ≡ rule_f s e t f
-unfolding rule_f
-rule_f_lem s e t f n a b c d i = rem_magnitudes (n i) (a i) (b i) (c i) (d i)
-
--- ---- room
-
-pub signed_room : (negated : Bool) (l h : ℕ) {n : ℕ} → length (flat (signed_span negated l h)) ≤ n → 2 ≤ n
-signed_room negated l h k = omega (arith, signed_two negated l h)
-
-pub magnitudes_room : (negated : Bool) (a b c d : ℕ) {n : ℕ} → length (flat (rem_magnitudes negated a b c d)) ≤ n → 2 ≤ n
-magnitudes_room negated a b c d {n} =
-    magnitudes_case negated a b c d (λ l. length (flat l) ≤ n → 2 ≤ n)
-    (λ h. signed_room negated 0 (d - 1) h)
-    (λ _ _ _ h. signed_room negated 0 (b % c) (first_room (signed_span negated 0 (b % c)) [] n h))
-    (λ _ _ _ h. signed_room negated 0 (b % c) (first_room (signed_span negated 0 (b % c)) (signed_span negated (a % c) (c - 1)) n h))
-    (λ _ _ _ h. signed_room negated (a % c) (b % c) h)
+-- remainders are at least one interval
+pub magnitudes_two : (negated : Bool) (a b c d : ℕ) → 2 ≤ length (flat (rem_magnitudes negated a b c d))
+magnitudes_two negated a b c d =
+    magnitudes_case negated a b c d (λ l. 2 ≤ length (flat l))
+    (omega (arith, signed_two negated 0 (d - 1)))
+    (λ _ _ _. first_two negated 0 (b % c) [])
+    (λ _ _ _. first_two negated 0 (b % c) (signed_span negated (a % c) (c - 1)))
+    (λ _ _ _. omega (arith, signed_two negated (a % c) (b % c)))

@@ -3,6 +3,7 @@
 #![tactic(auto)]
 
 ghost use Rattle.std.specs.Prelude.{◌≡◌, ◌≤◌, leb, length, is_some, IfSome, OnSome, None};
+ghost use Rattle.replay.specs.Numbered.{ReadsNumber};
 ghost use Rattle.replay.specs.Tallied.{tallied};
 
 use std::fs;
@@ -15,11 +16,19 @@ pub const ROOM: usize = 8256;
 // More cases than a file has: a proved loop has to end, and nothing says that a file does.
 const CASES: u64 = 1000000;
 
-// The next number of the file; bytes past its end read as 0.
-pub fn read_number<F: Read>(file: &mut F) -> i64 {
+// The next number of the file; none if the file ends before the last of its bytes.
+pub fn next_number<F: Read>(file: &mut F) -> Option<i64>
+    ensures { ReadsNumber (F.remaining file.old) (F.remaining file.new) result }
+{
     let mut bytes = [0u8; 8];
-    let _ = file.read_exact(&mut bytes);
-    stored::number_in(&bytes)
+    file.read_exact(&mut bytes).ok()?;
+    Some(stored::number_in(&bytes))
+}
+
+// The next number of the file; 0 past its end.
+// Kept: a 0 in place of an option, since a public function that could not fail still cannot; `next_number` can.
+pub fn read_number<F: Read>(file: &mut F) -> i64 {
+    next_number(file).unwrap_or(0)
 }
 
 // As many numbers of the file as s has places.
@@ -85,15 +94,21 @@ impl Tally {
     }
 }
 
-// All cases of a file: `next` reads one and says whether it agrees, or answers none if the file has no more.
-pub fn replay_cases<F: Read, A: Fn(&mut F) -> Option<bool>>(file: &mut F, next: A) -> Tally
-    requires { A.IsAlwaysCallable next }
+// All cases of a file: `next` reads one, if the file has one more, and `agrees` goes on in the file and says whether the answer is the stored one; a case that
+// cannot be lent its slices does not agree.
+pub fn replay_cases<F: Read, C, N: Fn(&mut F) -> Option<C>, A: Fn(&mut F, C) -> Option<bool>>(
+    file: &mut F,
+    next: N,
+    agrees: A,
+) -> Tally
+    requires next { N.IsAlwaysCallable next }
+    requires agrees { A.IsAlwaysCallable agrees }
     ensures { result.differ ≤ result.cases }
 {
     let mut tally = Tally::new();
     for _ in 0..CASES {
         match next(file) {
-            Some(agrees) => tally = tally.counted(agrees),
+            Some(case) => tally = tally.counted(agrees(file, case).unwrap_or(false)),
             None => break,
         }
     }
@@ -115,16 +130,17 @@ pub fn report<R: Print>(rt: &R, name: &[u8], tally: Tally) {
 }
 
 // Replays the cases of one file, and reports under a name; or says on standard error why the file cannot be opened.
-pub fn replay_file<R: Files + Print + Eprint, A: Fn(&mut R::File) -> Option<bool>>(
-    rt: &R,
-    path: &str,
-    name: &str,
-    next: A,
-)
-    requires { A.IsAlwaysCallable next }
+pub fn replay_file<
+    R: Files + Print + Eprint,
+    C,
+    N: Fn(&mut R::File) -> Option<C>,
+    A: Fn(&mut R::File, C) -> Option<bool>,
+>(rt: &R, path: &str, name: &str, next: N, agrees: A)
+    requires next { N.IsAlwaysCallable next }
+    requires agrees { A.IsAlwaysCallable agrees }
 {
     match fs::open(rt, path) {
-        Ok(mut file) => report(rt, name.as_bytes(), replay_cases(&mut file, next)),
+        Ok(mut file) => report(rt, name.as_bytes(), replay_cases(&mut file, next, agrees)),
         Err(e) => {
             let _ = eprintln!(rt; "{path}: {e}");
         }

@@ -1,7 +1,7 @@
 // What the public set calls share: what they answer, the refusal of their arguments, the need of work, and the end of the call.
 #![tactic(auto)]
 
-ghost use Rattle.std.specs.Prelude.{◌≡◌, cond, ◌*◌, ◌/◌, ◌≤◌, ltb, length, take, replicate, pos, OnOk};
+ghost use Rattle.std.specs.Prelude.{◌≡◌, cond, ◌*◌, ◌/◌, ◌≤◌, ltb, length, take, replicate, pos, IfOk, OnOk};
 ghost use Rattle.meaning.specs.Lists.{over};
 ghost use Rattle.meaning.specs.Refusals.{no_room};
 ghost use Rattle.meaning.specs.SetCalls as call;
@@ -11,9 +11,10 @@ ghost use Rattle.replies.specs.Returning.{returned};
 
 use limits::ENDS;
 use refusals::Cause;
-use sets::is_normal;
+use sets::{Ends, Operand, is_normal};
 
-// How many numbers a set call wrote, and the flag of its answer.
+// How many numbers of an answer were written, and its flag.
+// Kept: the flag beside the count, since it is part of the answer, and no sign of a missing one.
 #[derive(Clone, Copy, Debug, PartialEq, Eq)]
 pub struct Written {
     pub count: usize,
@@ -22,7 +23,8 @@ pub struct Written {
 
 // Refuses a set of over 16 intervals, and then one that is not normal. Out of line, so that the loop over the set has its registers for itself.
 #[inline(never)]
-pub fn accept(s: &[i64]) -> Result<(), Cause>
+#[tactic(auto, unfolding(meaning::specs::SetCalls::refusal))]
+fn judged(s: &[i64]) -> Result<(), Cause>
     ensures refused { code_of result ≡ call.refusal s.now }
     ensures argument { OnOk result (Argument s.now) }
 {
@@ -35,50 +37,60 @@ pub fn accept(s: &[i64]) -> Result<(), Cause>
     Ok(())
 }
 
-// Refuses the left set before the right set.
-pub fn accept_both(left: &[i64], right: &[i64]) -> Result<(), Cause>
+// The operand that a set is, if it is not refused.
+// Kept: a function and no TryFrom, which would have to stand beside `Operand`, in a crate that knows no refusals.
+pub fn accept(s: &[i64]) -> Result<Operand, Cause>
+    ensures refused { code_of result ≡ call.refusal s.now }
+    ensures same { IfOk result (λ operand. operand.set.numbers.now ≡ s.now) }
+{
+    judged(s)?;
+    Ok(Operand {
+        set: Ends { numbers: s },
+    })
+}
+
+// The operands that two sets are; the left set is refused before the right set.
+#[tactic(auto, using(refusals::proofs::Rows::number_not_zero), unfolding(meaning::specs::SetCalls::refusal2))]
+pub fn accept_both<'a>(
+    left: &'a [i64],
+    right: &'a [i64],
+) -> Result<(Operand<'a>, Operand<'a>), Cause>
     ensures refused { code_of result ≡ call.refusal2 left.now right.now }
-    ensures arguments { OnOk result (Argument left.now × Argument right.now) }
+    ensures same { IfOk result (λ operands. (operands.0.set.numbers.now ≡ left.now) × (operands.1.set.numbers.now ≡ right.now)) }
 {
-    accept(left)?;
-    accept(right)
+    Ok((accept(left)?, accept(right)?))
 }
 
-// The need of work, 2·k·n·m numbers for n and m intervals; here n and m are how many numbers the sets have.
-pub fn need(k: usize, n: usize, m: usize) -> usize
-    requires { (k ≤ 16) × (n ≤ 32) × (m ≤ 32) }
-    ensures { result ≡ 2 * k * (n / 2) * (m / 2) }
+// The need of work, 2·k numbers for each pair of intervals; left and right are how many numbers the sets have, two for each interval.
+pub fn need(k: usize, left: usize, right: usize) -> usize
+    requires { (k ≤ 16) × (left ≤ 32) × (right ≤ 32) }
+    ensures { result ≡ 2 * k * (left / 2) * (right / 2) }
 {
-    2 * k * (n / 2) * (m / 2)
+    2 * k * (left / 2) * (right / 2)
 }
 
-// The first count numbers of work to out, if it has room for them.
-pub fn hand_out(out: &mut [i64], work: &[i64], count: usize, flag: bool) -> Result<Written, Cause>
-    requires { count ≤ length work.now }
-    ensures { (returned result ≡ cond (ltb (length out.old) count) (call.refused no_room) (call.written count flag))
-        × (out.new ≡ cond (ltb (length out.old) count) out.old (over (take count work.now) out.old)) }
+// The ends of an answer to out, if it has room for them.
+#[tactic(auto, unfolding(meaning::specs::Lists::over))]
+pub fn hand_out(out: &mut [i64], ends: &[i64], flag: bool) -> Result<Written, Cause>
+    ensures { (returned result ≡ cond (ltb (length out.old) (length ends.now)) (call.refused no_room) (call.written (length ends.now) flag))
+        × (out.new ≡ cond (ltb (length out.old) (length ends.now)) out.old (over ends.now out.old)) }
 {
+    let count = ends.len();
     if out.len() < count {
         return Err(Cause::NoRoom);
     }
-    out[..count].copy_from_slice(&work[..count]);
+    out[..count].copy_from_slice(ends);
     Ok(Written { count, flag })
 }
 
-// The same, and then the first need numbers of work become 0.
-pub fn finish(
-    out: &mut [i64],
-    work: &mut [i64],
-    need: usize,
-    count: usize,
-    flag: bool,
-) -> Result<Written, Cause>
-    requires { (count ≤ need) × (need ≤ length work.old) }
-    ensures { (returned result ≡ cond (ltb (length out.old) count) (call.refused no_room) (call.written count flag))
-        × (out.new ≡ cond (ltb (length out.old) count) out.old (over (take count work.old) out.old))
-        × (work.new ≡ over (replicate need (pos 0)) work.old) }
+// What was written to the front of work handed out, and then all numbers of work become 0.
+pub fn finish(out: &mut [i64], work: &mut [i64], written: Written) -> Result<Written, Cause>
+    requires { written.count ≤ length work.old }
+    ensures { (returned result ≡ cond (ltb (length out.old) written.count) (call.refused no_room) (call.written written.count written.flag))
+        × (out.new ≡ cond (ltb (length out.old) written.count) out.old (over (take written.count work.old) out.old))
+        × (work.new ≡ replicate (length work.old) (pos 0)) }
 {
-    let answer = hand_out(out, work, count, flag);
-    work[..need].fill(0);
+    let answer = hand_out(out, &work[..written.count], written.flag);
+    work.fill(0);
     answer
 }

@@ -22,13 +22,13 @@ use Rattle.refusals.specs.declared.Cause.TheVariants.{TooShort}
 use Rattle.refusals.specs.declared.Trouble.{Trouble}
 use Rattle.refusals.specs.declared.Trouble.TheVariants.{Refused, Stopped}
 use Rattle.refusals.specs.Numbers.{number_of}
-use Rattle.refusals.specs.Endings.{success, ending_of, verdict_of}
+use Rattle.refusals.specs.Endings.{ending_of, verdict_of}
 use Rattle.sheet.specs.Answer.{Judges}
 use Rattle.sheet.specs.Judging.{IsSheet}
 use Rattle.sheet.proofs.Judging.{fine_sheet, refused_read}
 use Rattle.sheet.proofs.Walk.{Each, Next, each_sheet, each_next, each_done}
 use Rattle.run_lines.specs.Answer.{line_run, step_of, state_left, Stepped}
-use Rattle.run.specs.Answer.{answer_for, last_state, Worked, Ran}
+use Rattle.run.specs.Answer.{answer_for, last_state, counted, Worked, Ran}
 
 -- the lent numbers of the registers are all that a line of a sheet asks of them
 given_is : (lent state : List ℤ) (l : Line) → FineLine l → run_line (take registers lent) state l ≡ run_line lent state l
@@ -49,19 +49,15 @@ works_given lent state n (b ∷ bs) (l ∷ ls) h =
 pub record Running (lent first state : List ℤ) (ls : List Line) (count : ℕ) (rest : List (List ℕ)) : Type 0 where
   pub left : List Line
   pub each : Each rest left
-  pub counted : count + length left ≡ length ls
   pub same : work (run_line lent) 1 first ls ≡ work (run_line lent) (count + 1) state left
 
 pub running_start : (t : List ℕ) (lent first : List ℤ) {n : ℕ} (h : IsSheet t n) → Running lent first first h.lines 0 (lines t)
-running_start t lent first h = record { left = h.lines; each = each_sheet t h.reads; counted = omega arith; same = refl }
+running_start t lent first h = record { left = h.lines; each = each_sheet t h.reads; same = refl }
 
 module _ (lent first state : List ℤ) (ls : List Line) (count : ℕ) where
-  pub running_done : {n : ℕ} → length ls ≡ n → Running lent first state ls count [] → Worked n (Ok count) state (work (run_line lent) 1 first ls)
+  pub running_done : {n : ℕ} → Running lent first state ls count [] → Worked n (Ok n) state (work (run_line lent) 1 first ls)
   unfolding work
-  running_done {n} k g =
-      let e = each_done g.left g.each in
-      let c : count ≡ n = omega (arith, g.counted, ap length e) in
-      rw (g.same, e) (record { ends = ap success c; leaves = refl })
+  running_done {n} g = rw (g.same, each_done g.left g.each) (record { ends = refl; leaves = refl })
 
   module _ (b : List ℕ) (bs : List (List ℕ)) (g : Running lent first state ls count (b ∷ bs)) where
     next_is : Next b bs g.left
@@ -82,12 +78,11 @@ module _ (lent first state : List ℤ) (ls : List Line) (count : ℕ) where
     running_next {after} s = record {
       left = next_is.left;
       each = next_is.each;
-      counted = omega (arith, g.counted, ap length next_is.lines_are);
       same = works_as s.step ∙ ap (λ (k : ℕ). work (run_line lent) k after next_is.left) (sym (add-one (count + 1)));
     }
 
-    pub running_stop : {n : ℕ} {r : Result (Unit {0}) Cause} {x : Result ℕ Trouble} {after : List ℤ} → (k : Cause) × (r ≡ Err k) × (x ≡ Err (Stopped k (count + 1)))
-        → Stepped r after state (line_run lent state b) → Worked n x after (work (run_line lent) 1 first ls)
+    pub running_stop : {n : ℕ} {r : Result (Unit {0}) Cause} {x : Result (Unit {0}) Trouble} {after : List ℤ} → (k : Cause) × (r ≡ Err k) × (x ≡ Err (Stopped k (count + 1)))
+        → Stepped r after state (line_run lent state b) → Worked n (counted n x) after (work (run_line lent) 1 first ls)
     running_stop {n} {r} {x} {after} e s =
         let p : stop (number_of e.0) ≡ line_run lent state b = sym (ap (λ (y : Result (Unit {0}) Cause). step_of y after) e.1) ∙ s.step in
         let l : after ≡ state = s.left ∙ sym (ap (state_left state) p) in
@@ -145,15 +140,15 @@ module _ (t : List ℕ) (lent : List ℤ) where
         let p = refused_read t {r = Err trouble} j.answer_is refl in
         ran_is (refused (number_of p.0) p.1) (call_text h ∙ ap (judge (run lent)) p.3) (ap ending_of (d ∙ ap Err p.2)) refl (λ n o q. not_worked q)
 
-    pub ran_worked : {n : ℕ} → Judges t (Ok n) → {r : Result ℕ Trouble} {numbers state lent' : List ℤ} → numbers ≡ start_numbers lent → All InRange (start_numbers lent)
-        → ((n : ℕ) (s : IsSheet t n) → Worked n r state (work (run_line numbers) 1 numbers s.lines)) → lent' ≡ over state lent → Ran t lent r lent'
+    pub ran_worked : {n : ℕ} → Judges t (Ok n) → {r : Result ℕ Trouble} (ended : Result (Unit {0}) Trouble) → r ≡ counted n ended → {numbers state lent' : List ℤ} → numbers ≡ start_numbers lent → All InRange (start_numbers lent)
+        → ((n : ℕ) (s : IsSheet t n) → Worked n (counted n ended) state (work (run_line numbers) 1 numbers s.lines)) → lent' ≡ over state lent → Ran t lent r lent'
     unfolding run_text run start_numbers
-    ran_worked {n} j {r} {numbers} {state} {lent'} en g w l =
+    ran_worked {n} j {r} ended d {numbers} {state} {lent'} en g w l =
         let s = fine_sheet t {r = Ok n} j.answer_is refl in
         let o = w n s in
         let same : work (run_line numbers) 1 numbers s.lines ≡ run lent s.lines =
         (λ i. work (run_line (en i)) 1 (en i) s.lines) ∙ works_given lent (start_numbers lent) 1 (lines t) s.lines (each_sheet t s.reads) in
         ran_is (worked n (run lent s.lines)) (call_text h ∙ ap (judge (run lent)) s.reads ∙ ap (λ (k : ℕ). worked k (run lent s.lines)) s.count)
-        (o.ends ∙ ap (λ (x : Outcome (List ℤ)). answer_for (worked n x)) same)
+        (ap ending_of d ∙ o.ends ∙ ap (λ (x : Outcome (List ℤ)). answer_for (worked n x)) same)
         (l ∙ ap (λ (x : List ℤ). over x lent) (o.leaves ∙ ap last_state same) ∙ left_is n (run lent s.lines))
         (λ _ _ _. g)

@@ -1,5 +1,5 @@
 -- What each answer of the code says, in the words of `meaning`. Assumes nothing.
-use Rattle.std.specs.Prelude.{ℤ, List, ◌≡◌, ℕ, Result}
+use Rattle.std.specs.Prelude.{ℤ, List, ◌≡◌, ℕ, Result, Ok, Err}
 use Rattle.meaning.specs.Outcome.{Outcome, done, stopped}
 use Rattle.meaning.specs.Run.{verdict, Judged, refused, worked, run_call, run_lent, Ranged}
 use Rattle.refusals.specs.declared.Trouble.{Trouble}
@@ -15,6 +15,11 @@ answer_for (worked n (stopped k l s)) = stop k l
 abbrev pub last_state : Outcome (List ℤ) → List ℤ
 last_state (done s) = s
 last_state (stopped k l s) = s
+
+-- n lines that are all worked answer their count
+abbrev pub counted : ℕ → Result (Unit {0}) Trouble → Result ℕ Trouble
+counted n (Ok u) = Ok n
+counted n (Err e) = Err e
 
 -- the lines of a sheet worked: what the code answers, and the state that it leaves
 pub record Worked (n : ℕ) (r : Result ℕ Trouble) (state : List ℤ) (o : Outcome (List ℤ)) : Type 0 where

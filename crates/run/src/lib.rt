@@ -9,7 +9,7 @@ ghost use Rattle.meaning.specs.Lists.{All};
 ghost use Rattle.meaning.specs.Number.{InRange};
 ghost use Rattle.meaning.specs.Run.{run_line, start_numbers};
 ghost use Rattle.sheet.specs.Judging.{IsSheet};
-ghost use Rattle.run.specs.Answer.{Worked, Ran};
+ghost use Rattle.run.specs.Answer.{counted, Worked, Ran};
 
 use limits::REGISTERS;
 use refusals::{Cause, Trouble};
@@ -33,32 +33,24 @@ fn lent_numbers(lent: &[i64]) -> Option<[i64; REGISTERS]>
     Some(numbers)
 }
 
-// The lines of a sheet on the state: their count, or the line that stops the run.
-fn work(
-    text: &[u8],
-    lent: &[i64; REGISTERS],
-    state: &mut [i64; REGISTERS],
-) -> Result<usize, Trouble>
-    ensures { (n : ℕ) (sheet : IsSheet text.now n) → Worked n result state.new (work_lines (run_line lent.now) 1 state.old sheet.lines) }
+// The lines of a sheet on the state: nothing, or the line that stops the run.
+fn work(text: &[u8], lent: &[i64; REGISTERS], state: &mut [i64; REGISTERS]) -> Result<(), Trouble>
+    ensures { (n : ℕ) (sheet : IsSheet text.now n) → Worked n (counted n result) state.new (work_lines (run_line lent.now) 1 state.old sheet.lines) }
 {
-    let mut count = 0;
-    for line in Lines::of(text) {
-        count += 1;
-        run_line(line, lent, state).map_err(|cause| Trouble::Stopped(cause, count))?;
+    for (n, line) in Lines::of(text).enumerate() {
+        run_line(line, lent, state).map_err(|cause| Trouble::Stopped(cause, n + 1))?;
     }
-    Ok(count)
+    Ok(())
 }
 
 // The run of any bytes on the numbers lent for the registers.
 pub fn run(text: &[u8], lent: &mut [i64]) -> Result<usize, Trouble>
     ensures { Ran text.now lent.old result lent.new }
 {
-    let Some(numbers) = lent_numbers(lent) else {
-        return Err(Trouble::Refused(Cause::TooShort, 0));
-    };
-    judge_text(text)?;
+    let numbers = lent_numbers(lent).ok_or(Cause::TooShort)?;
+    let count = judge_text(text)?;
     let mut state = numbers;
     let ended = work(text, &numbers, &mut state);
     lent[..REGISTERS].copy_from_slice(&state);
-    ended
+    ended.map(|()| count)
 }

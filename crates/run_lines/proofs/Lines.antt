@@ -4,7 +4,8 @@ use mathlib.Core.Bool.{true, false}
 use mathlib.Core.List.{List}
 use Prim.Native.Nat.{ℕ, ◌<◌}
 use lib.IntN.{ℤ, pos}
-use lib.ListN.{get_or, set, drop}
+use lib.ListN.{get_or, set}
+use Rattle.std.specs.Borrow.{Bor}
 use Rattle.std.specs.Prelude.{Result, Ok, Err}
 use Rattle.meaning.specs.Outcome.{Res, ok, stop, bind}
 use Rattle.meaning.specs.Number.{within}
@@ -20,7 +21,8 @@ use Rattle.lines.specs.Answer.{line_from}
 use Rattle.lines.specs.declared.Line.{Line}
 use Rattle.lines.specs.declared.Line.TheVariants.{In, Put, Hold}
 use Rattle.lines.proofs.Lines.{put_reads}
-use Rattle.point_forms.specs.Answer.{points, put_value}
+use Rattle.forms.specs.Answer.{put_value}
+use Rattle.point_forms.specs.Answer.{points}
 use Rattle.point_forms.proofs.Points.{put_value_lem}
 use Rattle.run_lines.specs.Answer.{line_run, state_left, Stepped}
 
@@ -44,10 +46,10 @@ module _ (lent state : List ℤ) (s : List ℕ) where
   refused_halts e = halts (rw (← e))
 
 -- what the line does, by its kind
-module _ (lent state : List ℤ) (s : List ℕ) {l : Line} (el : line_from s (Ok l) ≡ read_line s) where
+module _ (lent state : List ℤ) (s : List ℕ) {l : Line} (el : line_from (Ok l) ≡ read_line s) where
   module _ {r : ℕ} {range : Interval} (e : l ≡ In r range) where
     in_line : read_line s ≡ ok (input r range.lo range.hi)
-    in_line = sym el ∙ ap (λ x. line_from s (Ok x)) e
+    in_line = sym el ∙ ap (λ x. line_from (Ok x)) e
 
     pub in_there : r < registers
     unfolding FineLine
@@ -63,7 +65,7 @@ module _ (lent state : List ℤ) (s : List ℕ) {l : Line} (el : line_from s (Ok
 
   module _ {r : ℕ} {range : Interval} (e : l ≡ Hold r range) where
     hold_line : read_line s ≡ ok (act (hold r range.lo range.hi))
-    hold_line = sym el ∙ ap (λ x. line_from s (Ok x)) e
+    hold_line = sym el ∙ ap (λ x. line_from (Ok x)) e
 
     pub hold_there : r < registers
     unfolding FineLine FineAct
@@ -77,25 +79,25 @@ module _ (lent state : List ℤ) (s : List ℕ) {l : Line} (el : line_from s (Ok
     unfolding run_line run_act
     hold_halts w = halts lent state s (reads_as lent state s hold_line ∙ rw w)
 
-  module _ {r j : ℕ} (e : l ≡ Put r j) where
-    put_line : (f : Form) × (n : ℕ) × (arg tree 7 (drop j s) ≡ got f n) × (read_line s ≡ ok (act (put r f)))
-    put_line = put_reads s r j (ap (λ x. line_from s (Ok x)) (sym e) ∙ el)
+  module _ {r : ℕ} {form : Bor (List ℕ)} (e : l ≡ Put r form) where
+    put_line : (f : Form) × (n : ℕ) × (arg tree 7 form.now ≡ got f n) × (read_line s ≡ ok (act (put r f)))
+    put_line = put_reads s r form.now (ap (λ x. line_from (Ok x)) (sym e) ∙ el)
 
     pub put_there : r < registers
     unfolding FineLine FineAct
     put_there = (read_line_fine s put_line.3).0
 
     -- by the value of its form
-    put_is : {v : Res ℤ} → v ≡ put_value (arg (points state) 7 (drop j s)) → line_run lent state s ≡ bind v (λ z. ok (set state r z))
+    put_is : {v : Res ℤ} → v ≡ put_value (arg (points state) 7 form.now) → line_run lent state s ≡ bind v (λ z. ok (set state r z))
     unfolding run_line run_act FineLine FineAct
     put_is w =
         let p = put_line in
-        reads_as lent state s p.3 ∙ ap (λ (a : Res ℤ). bind a (λ z. ok (set state r z))) (sym (w ∙ put_value_lem state (drop j s) p.2 (read_line_fine s p.3).1))
+        reads_as lent state s p.3 ∙ ap (λ (a : Res ℤ). bind a (λ z. ok (set state r z))) (sym (w ∙ put_value_lem state form.now p.2 (read_line_fine s p.3).1))
 
-    pub put_goes : {z : ℤ} → ok z ≡ put_value (arg (points state) 7 (drop j s)) → Does lent state s (Ok tt) (set state r z)
+    pub put_goes : {z : ℤ} → ok z ≡ put_value (arg (points state) 7 form.now) → Does lent state s (Ok tt) (set state r z)
     unfolding bind
     put_goes w = goes lent state s (put_is w)
 
-    pub put_halts : {cause : Cause} → stop (number_of cause) ≡ put_value (arg (points state) 7 (drop j s)) → Does lent state s (Err cause) state
+    pub put_halts : {cause : Cause} → stop (number_of cause) ≡ put_value (arg (points state) 7 form.now) → Does lent state s (Err cause) state
     unfolding bind
     put_halts w = halts lent state s (put_is w)

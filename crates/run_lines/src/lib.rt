@@ -4,9 +4,10 @@
 ghost use Rattle.meaning.specs.Sheet.{registers};
 ghost use Rattle.run_lines.specs.Answer.{line_run, Stepped};
 
+use forms::value;
 use limits::REGISTERS;
 use lines::{Line, read_line};
-use point_forms::value_at;
+use point_forms::Values;
 use refusals::Cause;
 
 // One line on the state: a stop leaves the state as it was.
@@ -26,7 +27,7 @@ pub fn run_line(
             }
             state[register] = number;
         }
-        Line::Put(register, start) => state[register] = value_at(text, start, state)?,
+        Line::Put(register, form) => state[register] = value(form, &mut Values { state })?,
         Line::Hold(register, range) => {
             if !range.contains(state[register]) {
                 return Err(Cause::HoldBroken);

@@ -21,7 +21,7 @@ use Rattle.laws.proofs.Lengths.{room1, room2, union_room}
 use Rattle.sets.proofs.Rooms.{intersect_room}
 use Rattle.sets.specs.Sets.{Argument}
 use Rattle.replies.specs.Returning.{Ended, Handed}
-use Rattle.set_calls.proofs.Calls.{handed_refused, handed_as, no_need1, no_need2}
+use Rattle.set_calls.proofs.Calls.{handed_refused, handed_as, no_need1}
 
 pub ranged : {l : List ℤ} → Argument l → All InRange l
 ranged {l} a =
@@ -128,9 +128,6 @@ module _ (left right out : List ℤ) {k : ℕ} (e : k ≡ refusal2 left right) (
   read_refused : Read2 left right
   read_refused z = absurd (h (e ∙ z))
 
-  pub gives2_refused : (o : Op2) → Gives2 o left right out (refused k) out
-  gives2_refused o = gives2 o left right out (handed_refused _ _ _ _ _ _ e h) read_refused
-
   pub unites_refused : Unites left right out (refused k) out
   unites_refused = unites left right out (handed_refused _ _ _ _ _ _ e h) read_refused
 
@@ -142,8 +139,3 @@ module _ (left right out : List ℤ) {k : ℕ} (e : k ≡ refusal2 left right) (
 module _ (o : Op1) (left out : List ℤ) (m : BoolInterval) {r : Returned} {a : List ℤ} where
   pub gives1_bools : of_bools m ≡ set1 o (intervals left) → false ≡ flag1 o false → factor1 o ≡ 0 → 0 ≡ refusal left → Argument left → Handed 0 0 (of_bools m) false out r a → Gives1 o left out r a
   gives1_bools s f n e g h = gives1 o left out (handed_as out e (sym (no_need1 n (length left / 2))) s f h) (λ _. g)
-
-module _ (o : Op2) (left right out : List ℤ) (m : BoolInterval) {r : Returned} {a : List ℤ} where
-  pub gives2_bools : of_bools m ≡ set2 o (intervals left) (intervals right) → false ≡ flag2 o false (intervals left) (intervals right) → factor2 o ≡ 0 → 0 ≡ refusal2 left right → Argument left × Argument right
-      → Handed 0 0 (of_bools m) false out r a → Gives2 o left right out r a
-  gives2_bools s f n e g h = gives2 o left right out (handed_as out e (sym (no_need2 n (length left / 2) (length right / 2))) s f h) (λ _. g)

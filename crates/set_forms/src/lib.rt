@@ -1,25 +1,21 @@
 // The set of a form straight from its bytes: left argument, right, form.
 #![tactic(auto)]
 
-ghost use Rattle.std.specs.Prelude.{◌≡◌};
 ghost use Rattle.meaning.specs.Outcome.{Res};
 ghost use Rattle.meaning.specs.NumberIntervals.{Set};
-ghost use Rattle.meaning.specs.Reading.{map_got, arg as arg_at};
-ghost use Rattle.literals.specs.Answer.{got_of};
 ghost use Rattle.set_values.specs.Value.{result_of, sets_of, values};
 
-use forms::{Algebra, Op1, Op2, read_arg};
+use forms::{Algebra, Op1, Op2};
 use interval::Interval;
 use limits::WORK;
-use literals::Got;
 use refusals::Cause;
 use set_values::{FormSet, Registers, apply1, apply2};
 
 // What forms come to on the registers' sets, worked in a lent slice.
 #[derive(Drop)]
-struct Sets<'a> {
-    registers: &'a Registers,
-    work: &'a mut [i64; WORK],
+pub struct Sets<'a> {
+    pub registers: &'a Registers,
+    pub work: &'a mut [i64; WORK],
 }
 
 impl Algebra for Sets<'_> {
@@ -57,16 +53,4 @@ impl Algebra for Sets<'_> {
     ) -> Result<FormSet, Cause> {
         apply2(op, a?, b?, self.work)
     }
-}
-
-// The set of an argument, with `depth` brackets left: of a form if it opens a bracket, else of a literal.
-pub fn set_arg(
-    text: &[u8],
-    depth: usize,
-    registers: &Registers,
-    work: &mut [i64; WORK],
-) -> Option<Got<Result<FormSet, Cause>>>
-    ensures { map_got result_of (got_of result) ≡ arg_at (values (sets_of registers.now)) depth text.now }
-{
-    read_arg(text, depth, &mut Sets { registers, work })
 }

@@ -1,3 +1,3 @@
--- Laws of one line.
+-- Laws of one line. Assumes nothing.
 pub mod Bounds
 pub mod Lines

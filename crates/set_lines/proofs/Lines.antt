@@ -5,7 +5,7 @@ use mathlib.Core.List.{List}
 use Prim.Native.Nat.{ℕ, ◌<◌}
 use native.Mathlib.Omega.{arith}
 use lib.IntN.{ℤ}
-use lib.ListN.{set, drop}
+use lib.ListN.{set}
 use Rattle.std.specs.Prelude.{Result, Ok, Err}
 use Rattle.meaning.specs.Refusals.{hold_broken}
 use Rattle.meaning.specs.Outcome.{Res, ok, stop, bind}
@@ -19,16 +19,16 @@ use Rattle.laws.proofs.Integers.{between_within}
 use Rattle.laws.proofs.Fine.{read_line_fine}
 use Rattle.laws.proofs.Fusion.{Related, rel_arg}
 use Rattle.literals.specs.Answer.{kept}
-use Rattle.lines.specs.Answer.{line_from}
+use Rattle.forms.specs.Answer.{put_value}
+use Rattle.lines.specs.Answer.{put_of, line_from}
 use Rattle.lines.specs.declared.Line.{Line}
-use Rattle.lines.specs.declared.Line.TheVariants as line
 use Rattle.lines.proofs.Lines.{put_reads}
 use Rattle.refusals.specs.declared.Cause.{Cause}
 use Rattle.refusals.specs.Endings.{code_of}
 use Rattle.refusals.proofs.Rows.{number_not_zero}
 use Rattle.set_values.specs.declared.registers.Registers.{Registers}
 use Rattle.set_values.specs.Value.{sets_of, bands_of, answer1, answer2, values}
-use Rattle.set_lines.specs.Worked.{put_value, hold_number, line_check, line_left}
+use Rattle.set_lines.specs.Worked.{hold_number, line_check, line_left}
 
 -- ---- the set of a form
 
@@ -67,7 +67,7 @@ module _ (S : List Set) where
 
 -- ---- the lines; s is the line's bytes
 
-pub read_as : (s : List ℕ) {x : Result Line Cause} {l v : Line} → line_from s x ≡ read_line s → x ≡ Ok l → l ≡ v → line_from s (Ok v) ≡ read_line s
+pub read_as : (s : List ℕ) {x : Result Line Cause} {l v : Line} → line_from x ≡ read_line s → x ≡ Ok l → l ≡ v → line_from (Ok v) ≡ read_line s
 read_as s e p q = rw (p ∙ ap (λ (l : Line). Ok l) q) at e
 
 module _ (s : List ℕ) {r : ℕ} {lo hi : ℤ} where
@@ -97,9 +97,9 @@ pub refused_is : (s : List ℕ) {k : ℕ} → stop k ≡ read_line s → (B : Ba
 unfolding line_check bind
 refused_is s e B = rw (← e)
 
-module _ (s : List ℕ) (r j : ℕ) (e : line_from s (Ok (line.Put r j)) ≡ read_line s) where
-  abbrev read_put : (f : Form) × (n : ℕ) × (arg tree 7 (drop j s) ≡ got f n) × (read_line s ≡ ok (act (put r f)))
-  read_put = put_reads s r j e
+module _ (s : List ℕ) (r : ℕ) (t : List ℕ) (e : put_of r (arg tree 7 t) ≡ read_line s) where
+  abbrev read_put : (f : Form) × (n : ℕ) × (arg tree 7 t ≡ got f n) × (read_line s ≡ ok (act (put r f)))
+  read_put = put_reads s r t e
 
   put_fine : (r < registers) × FineForm read_put.0
   unfolding FineLine FineAct
@@ -109,11 +109,11 @@ module _ (s : List ℕ) (r j : ℕ) (e : line_from s (Ok (line.Put r j)) ≡ rea
   put_there = put_fine.0
 
   -- v is the form's result
-  module _ (S : List Set) {v : Res Set} (ev : v ≡ put_value (arg (values S) 7 (drop j s))) where
+  module _ (S : List Set) {v : Res Set} (ev : v ≡ put_value (arg (values S) 7 t)) where
     put_is : line_check (record { sets = S }) s ≡ bind v (λ q. ok (give (record { sets = S }) r q))
     unfolding line_check bind line_by act_by
     put_is =
-        rw read_put.3 (ap (λ (x : Res Set). bind x (λ q. ok (give (record { sets = S }) r q))) (sym (ev ∙ form_value S 7 (drop j s) read_put.2 put_fine.1)))
+        rw read_put.3 (ap (λ (x : Res Set). bind x (λ q. ok (give (record { sets = S }) r q))) (sym (ev ∙ form_value S 7 t read_put.2 put_fine.1)))
 
     pub put_worked : {q : Set} → v ≡ ok q → {new : List Set} → new ≡ set S r q → ok (record { sets = new }) ≡ line_check (record { sets = S }) s
     unfolding bind

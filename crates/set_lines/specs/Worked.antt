@@ -1,19 +1,13 @@
 -- What a line does to the registers' sets, in the words of `meaning`. Assumes nothing.
 use Rattle.std.specs.Prelude.{Bool, cond, List, ℕ, Result, Ok, Err}
-use Rattle.meaning.specs.Refusals.{ungrammatical, hold_broken}
+use Rattle.meaning.specs.Refusals.{hold_broken}
 use Rattle.meaning.specs.Outcome.{Res, ok, stop, bind}
-use Rattle.meaning.specs.NumberIntervals.{Set}
-use Rattle.meaning.specs.Reading.{Got, got, bad, read_line}
+use Rattle.meaning.specs.Reading.{read_line}
 use Rattle.meaning.specs.Check.{Bands, check_line, interval_limit}
 use Rattle.refusals.specs.declared.Cause.{Cause}
 use Rattle.refusals.specs.Numbers.{number_of}
 use Rattle.set_values.specs.declared.registers.Registers.{Registers}
 use Rattle.set_values.specs.Value.{bands_of}
-
--- the result of a put's argument
-abbrev pub put_value : Got (Res Set) → Res Set
-put_value (got v n) = v
-put_value bad = stop ungrammatical
 
 -- the number of a hold: `held` says whether no value is outside
 abbrev pub hold_number : Bool → ℕ

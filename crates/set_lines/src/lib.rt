@@ -1,21 +1,20 @@
 // One line of a sheet on the sets of the registers.
 #![tactic(auto)]
 
-ghost use Rattle.std.specs.Prelude.{◌≡◌, ◌&&◌, pos, drop, slice_index_or};
+ghost use Rattle.std.specs.Prelude.{◌≡◌, ◌&&◌, pos, slice_index_or};
 ghost use Rattle.std.specs.Int.Signed.{le_z};
 ghost use Rattle.meaning.specs.NumberIntervals.{intervals};
-ghost use Rattle.meaning.specs.Reading.{arg as arg_at};
 ghost use Rattle.meaning.specs.Check.{inside as inside_of};
 ghost use Rattle.refusals.specs.Endings.{code_of};
-ghost use Rattle.set_values.specs.Value.{set_of, result_of, sets_of, bands_of, values};
-ghost use Rattle.set_lines.specs.Worked.{put_value, hold_number, line_check, line_left};
+ghost use Rattle.set_values.specs.Value.{set_of, bands_of};
+ghost use Rattle.set_lines.specs.Worked.{hold_number, line_check, line_left};
 
+use forms::value;
 use interval::Interval;
-use limits::{INNER, WORK};
+use limits::WORK;
 use lines::{Line, read_line};
-use literals::tail;
 use refusals::Cause;
-use set_forms::set_arg;
+use set_forms::Sets;
 use set_values::{FormSet, Registers};
 
 // The interval with these ends lies within the bounds.
@@ -26,6 +25,7 @@ fn lies_in(ends: &[i64; 2], bounds: Interval) -> bool
 }
 
 // No member of the set with these ends is outside the bounds.
+// Kept: beside the walk of `sets::contains`, since `all`, `any` and what is asked of a pair differ, and a generic walk of what is left would be `as_chunks::<2>().0.iter()` by another name.
 fn inside(ends: &[i64], bounds: Interval) -> bool
     ensures { result ≡ inside_of bounds.lo (intervals ends.now) bounds.hi }
 {
@@ -39,25 +39,10 @@ fn inside(ends: &[i64], bounds: Interval) -> bool
 fn hold(set: FormSet, bounds: Interval) -> Result<(), Cause>
     ensures { code_of result ≡ hold_number (inside_of bounds.lo (set_of set) bounds.hi) }
 {
-    if inside(set.ends(), bounds) {
+    if inside(set.ends().set.numbers, bounds) {
         Ok(())
     } else {
         Err(Cause::HoldBroken)
-    }
-}
-
-// The set of the form that starts at j.
-fn value_at(
-    text: &[u8],
-    j: usize,
-    registers: &Registers,
-    work: &mut [i64; WORK],
-) -> Result<FormSet, Cause>
-    ensures { result_of result ≡ put_value (arg_at (values (sets_of registers.now)) 7 (drop j text.now)) }
-{
-    match set_arg(tail(text, j), INNER, registers, work) {
-        Some(read) => read.value,
-        None => Err(Cause::Ungrammatical),
     }
 }
 
@@ -74,8 +59,8 @@ pub fn check_line(
             registers.give(r, FormSet::from(interval));
             Ok(())
         }
-        Line::Put(r, j) => {
-            let value = value_at(text, j, registers, work)?;
+        Line::Put(r, form) => {
+            let value = value(form, &mut Sets { registers, work })?;
             registers.give(r, value);
             Ok(())
         }

@@ -27,6 +27,19 @@ use Rattle.set_values.specs.Slots.{sets_in, Sized, Slots}
 
 -- ---- slots in a layout
 
+-- the prover's words for register r's slot, for the whole with another in its place, and for the count that the machine reads in it
+abbrev slot_at : ℕ → List ℤ → List ℤ
+slot_at r l = mid_of (33 * r) (33 * (r + 1) - 33 * r) l
+
+abbrev with_slot : ℕ → List ℤ → List ℤ → List ℤ
+with_slot r l new = put_mid (33 * r) (33 * (r + 1) - 33 * r) l new
+
+abbrev count_at : ℕ → List ℤ → ℤ
+count_at r l = rd (slice_index_or (slot_at r l) 0 (pos 0))
+
+slot_long : (r : ℕ) → 33 * (r + 1) - 33 * r ≡ 33
+slot_long r = omega arith
+
 layout_append : (S T : List Set) → layout (S ++ T) ≡ layout S ++ layout T
 unfolding layout
 layout_append [] T = refl
@@ -91,7 +104,7 @@ shorts : (S : List Set) → All Sized S → All Short S
 shorts S h = all_map Sized Short (λ s z. z.few) S h
 
 module _ {l : List ℤ} (S : List Set) (n : length S ≡ registers) (h : All Sized S) (e : l ≡ layout S) where
-  pub sets_are : sets_in registers l ≡ S
+  sets_are : sets_in registers l ≡ S
   sets_are = (λ i. sets_in (sym n i) (e i)) ∙ sets_back S (shorts S h)
 
   pub slots : Slots l
@@ -124,7 +137,7 @@ held_slot h = λ i. pos (h.counted i) ∷ h.is i
 
 -- the numbers so far are the slots of one set
 pub start_more : (s : Set) (r : ℕ) (l new : List ℤ) → Sized s → take (33 * r) l ≡ layout (replicate r s) → 33 * r + 33 ≤ length l → new ≡ slot s
-    → take (33 * (r + 1)) (put_mid (33 * r) (33 * (r + 1) - 33 * r) l new) ≡ layout (replicate (r + 1) s)
+    → take (33 * (r + 1)) (with_slot r l new) ≡ layout (replicate (r + 1) s)
 unfolding layout
 start_more s r l new z e b n =
     take-put_mid (33 * r) (33 * (r + 1) - 33 * r) l new (33 * (r + 1)) (omega (arith, ap length n, length_slot s z.few)) (omega arith)
@@ -145,48 +158,54 @@ module _ {s : Set} (z : Sized s) {r : ℕ} (l : List ℤ) (n : length l ≡ sets
 -- ---- a register's slot
 
 module _ {l : List ℤ} (h : Slots l) where
-  sized : All Sized (sets_in registers l)
-  sized = all_from Sized (sets_in registers l) (only (pos 0)) (λ r _. h.each r)
+  abbrev S : List Set
+  S = sets_in registers l
+
+  sized : All Sized S
+  sized = all_from Sized S (only (pos 0)) (λ r _. h.each r)
 
   module _ (r : ℕ) (k : r < registers) where
-    there : r < length (sets_in registers l)
+    there : r < length S
     there = omega (arith, sets_length registers l)
 
-    pub slot_is : mid_of (33 * r) (33 * (r + 1) - 33 * r) l ≡ slot (at (sets_in registers l) r)
+    slot_is : slot_at r l ≡ slot (at S r)
     slot_is =
-        ap (λ (n : ℕ). mid_of (33 * r) n l) (let e : 33 * (r + 1) - 33 * r ≡ 33 = omega arith in e)
+        ap (λ (n : ℕ). mid_of (33 * r) n l) (slot_long r)
         ∙ ap (λ (x : List ℤ). take 33 (drop (33 * r) x)) h.is
-        ∙ slot_read (sets_in registers l) r (shorts (sets_in registers l) sized) there
+        ∙ slot_read S r (shorts S sized) there
 
-    pub slot_length : length (mid_of (33 * r) (33 * (r + 1) - 33 * r) l) ≡ 33
-    slot_length = ap length slot_is ∙ length_slot (at (sets_in registers l) r) (h.each r).few
+    pub slot_length : length (slot_at r l) ≡ 33
+    slot_length = ap length slot_is ∙ length_slot (at S r) (h.each r).few
 
     -- its count and its ends, as the machine reads the count
-    pub few_read : length (at (sets_in registers l) r) ≤ 16
+    pub few_read : length (at S r) ≤ 16
     few_read = (h.each r).few
 
-    pub count_read : rd (slice_index_or (mid_of (33 * r) (33 * (r + 1) - 33 * r) l) 0 (pos 0)) ≡ pos (length (at (sets_in registers l) r))
+    pub count_read : count_at r l ≡ pos (length (at S r))
     count_read =
-        ap rd (slot_count (at (sets_in registers l) r) slot_is)
+        ap rd (slot_count (at S r) slot_is)
         ∙ to_z-of_z {w = w64} (record { sfits = let few = few_read in omega arith })
 
-    pub ends_read : take (1 + 2 * nat_abs (rd (slice_index_or (mid_of (33 * r) (33 * (r + 1) - 33 * r) l) 0 (pos 0))) - 1) (drop 1 (mid_of (33 * r) (33 * (r + 1) - 33 * r) l)) ≡ flat (at (sets_in registers l) r)
-    ends_read = slot_ends (at (sets_in registers l) r) slot_is (ap nat_abs count_read)
+    pub few_count : nat_abs (count_at r l) ≤ 16
+    few_count = omega (arith, few_read, ap nat_abs count_read)
+
+    pub ends_read : take (1 + 2 * nat_abs (count_at r l) - 1) (drop 1 (slot_at r l)) ≡ flat (at S r)
+    ends_read = slot_ends (at S r) slot_is (ap nat_abs count_read)
 
     module _ {s : Set} (z : Sized s) {new : List ℤ} (n : new ≡ slot s) where
-      given : put_mid (33 * r) (33 * (r + 1) - 33 * r) l new ≡ layout (set (sets_in registers l) r s)
+      given : with_slot r l new ≡ layout (set S r s)
       given =
-          (λ i. put_mid (33 * r) (let e : 33 * (r + 1) - 33 * r ≡ 33 = omega arith in e i) (h.is i) (n i))
-          ∙ slot_put (sets_in registers l) r (shorts (sets_in registers l) sized) there s
+          (λ i. put_mid (33 * r) (slot_long r i) (h.is i) (n i))
+          ∙ slot_put S r (shorts S sized) there s
 
-      set_sized : All Sized (set (sets_in registers l) r s)
-      set_sized = all_set Sized (sets_in registers l) r s z sized
+      set_sized : All Sized (set S r s)
+      set_sized = all_set Sized S r s z sized
 
-      set_length : length (set (sets_in registers l) r s) ≡ registers
-      set_length = length-set (sets_in registers l) r s ∙ sets_length registers l
+      set_length : length (set S r s) ≡ registers
+      set_length = length-set S r s ∙ sets_length registers l
 
-      pub give_slots : Slots (put_mid (33 * r) (33 * (r + 1) - 33 * r) l new)
-      give_slots = slots (set (sets_in registers l) r s) set_length set_sized given
+      pub give_slots : Slots (with_slot r l new)
+      give_slots = slots (set S r s) set_length set_sized given
 
-      pub give_is : sets_in registers (put_mid (33 * r) (33 * (r + 1) - 33 * r) l new) ≡ set (sets_in registers l) r s
-      give_is = sets_are (set (sets_in registers l) r s) set_length set_sized given
+      pub give_is : sets_in registers (with_slot r l new) ≡ set S r s
+      give_is = sets_are (set S r s) set_length set_sized given

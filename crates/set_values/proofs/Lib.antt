@@ -1,4 +1,4 @@
--- Laws of the sets of forms.
+-- Laws of the sets of forms. Assumes nothing.
 pub mod Cores
 pub mod Layouts
 pub mod Sets

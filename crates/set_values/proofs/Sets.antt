@@ -24,16 +24,10 @@ use Rattle.laws.proofs.Flat.{intervals_flat, flat_normal, length_flat}
 use Rattle.laws.proofs.Members.{between}
 use Rattle.laws.proofs.Demand2.{demand2}
 use Rattle.laws.proofs.CheckSets.{span_normal, form1_sound, form2_sound}
-use Rattle.sets.specs.Sets.{Argument}
-use Rattle.set_values.specs.Held.{padded, shown, Held, Few, Normal-prop}
+use Rattle.sets.specs.Sets.{SetEnds}
+use Rattle.set_values.specs.Held.{padded, shown, Held, Few}
 use Rattle.set_values.specs.Slots.{Sized}
-use Rattle.set_values.specs.Value.{set_of, result_of, SoundResult}
-use Rattle.set_values.specs.declared.form_set.FormSet.{FormSet}
-use Rattle.refusals.specs.declared.Cause.{Cause}
-use Rattle.refusals.proofs.Rows.{number_one_row}
-use Rattle.std.specs.Prelude.{Result, Ok, Err}
-use Rattle.std.proofs.Props.{props}
-use mathlib.Core.HLevel.{is_prop→PathP}
+use Rattle.set_values.specs.Value.{SoundResult}
 
 -- ---- a set that is not empty has a member, and back
 
@@ -65,31 +59,31 @@ module _ {count : ℕ} {ends : List ℤ} (h : Held count ends) where
   pub held_sound : SoundSet interval_limit (shown count ends)
   held_sound = sized_sound held_sized
 
-pub argument : {s : Set} → SoundSet interval_limit s → Argument (flat s)
-argument {s} h = record {
-  set = record { test = flat_normal s h.normal; is = rw (intervals_flat s) h.normal };
-  few = let f = h.few in omega (arith, length_flat s);
-}
+  pub held_set : SetEnds (take (2 * count) ends)
+  held_set = rw held_ends (record { test = flat_normal (shown count ends) h.normal; is = rw (intervals_flat (shown count ends)) h.normal })
 
 -- ---- the ends of such a set, with zeros behind them
 
 module _ {l : List ℤ} (h : Few l) where
+  abbrev in_room : List ℤ
+  in_room = l ++ drop (length l) (replicate 32 (pos 0))
+
   few_twice : length l ≡ 2 * length (intervals l)
   few_twice = ap length h.ends ∙ length_flat (intervals l)
 
   pub few_length : length l ≤ 32
   few_length = let f = h.sound.few in omega (arith, few_twice)
 
-  pub few_shown : shown (length l / 2) (l ++ drop (length l) (replicate 32 (pos 0))) ≡ intervals l
+  pub few_shown : shown (length l / 2) in_room ≡ intervals l
   unfolding shown
   few_shown = ap intervals (take_at l (drop (length l) (replicate 32 (pos 0))) (2 * (length l / 2)) (omega (arith, few_twice)))
 
-  few_padded : l ++ drop (length l) (replicate 32 (pos 0)) ≡ padded (intervals l)
+  few_padded : in_room ≡ padded (intervals l)
   unfolding padded
   few_padded =
       ap (λ (x : List ℤ). l ++ x) (drop-replicate (length l) 32 (pos 0)) ∙ ap (λ (x : List ℤ). x ++ replicate (32 - length x) (pos 0)) h.ends
 
-  pub few_held : Held (length l / 2) (l ++ drop (length l) (replicate 32 (pos 0)))
+  pub few_held : Held (length l / 2) in_room
   few_held = record {
     counted = rw few_shown (omega (arith, few_twice));
     is = rw few_shown few_padded;
@@ -104,7 +98,7 @@ flat_few {s} h = record { ends = ap flat (sym (intervals_flat s)); sound = rw (i
 pub sized_few : {s : Set} → Sized s → Few (flat s)
 sized_few z = flat_few (sized_sound z)
 
-pub span_sound : {lo hi : ℤ} → InRange lo → InRange hi → lo ≤ℤ hi → SoundSet interval_limit (span lo hi)
+span_sound : {lo hi : ℤ} → InRange lo → InRange hi → lo ≤ℤ hi → SoundSet interval_limit (span lo hi)
 span_sound {lo} {hi} l h o = record { normal = span_normal lo hi l h o; filled = (lo, here (between (omega zarith) o)); few = omega arith }
 
 -- ---- a form's answer
@@ -130,25 +124,3 @@ module _ {lo hi : ℤ} (l : SFits w64 lo) (h : SFits w64 hi) where
   pub span_few : lo ≤ℤ hi → Few (rd lo ∷ rd hi ∷ [])
   unfolding flat intervals
   span_few o = rw (to_z-of_z l, to_z-of_z h) (record { ends = refl; sound = span_sound (fits_range l) (fits_range h) o })
-
--- ---- the set tells the value, zeros included
-
-held_prop : (count : ℕ) (ends : List ℤ) → IsProp (Held count ends)
-held_prop count ends = hlevel (props, Normal-prop)
-
-pub set_one_value : (f g : FormSet) → set_of f ≡ set_of g → f ≡ g
-set_one_value f g e =
-    let counts : f.count ≡ g.count = f.held.counted ∙ ap length e ∙ sym g.held.counted in
-    let ends : f.ends ≡ g.ends = f.held.is ∙ ap padded e ∙ sym g.held.is in
-    λ i. record {
-      count = counts i;
-      ends = ends i;
-      held = is_prop→PathP (λ j. Held (counts j) (ends j)) (λ j. held_prop (counts j) (ends j)) f.held g.held i;
-    }
-
--- and a form's result, its trouble included
-pub result_one_value : (r s : Result FormSet Cause) → result_of r ≡ result_of s → r ≡ s
-result_one_value (Ok f) (Ok g) e = ap (λ (f : FormSet). Ok f) (set_one_value f g cc)
-result_one_value (Ok f) (Err d) e = cc
-result_one_value (Err d) (Ok f) e = cc
-result_one_value (Err c) (Err d) e = ap (λ (d : Cause). Err d) (number_one_row c d cc)

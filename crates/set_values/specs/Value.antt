@@ -4,15 +4,16 @@ use Rattle.std.specs.Prelude.{Option, None, Some}
 use Rattle.meaning.specs.Outcome.{Res, ok, stop, bind}
 use Rattle.meaning.specs.Number.{Op1, Op2, add, sub, mul, div, rem}
 use Rattle.meaning.specs.Interval.{only}
-use Rattle.meaning.specs.NumberIntervals.{Set, set1, set2, flag1, flag2, flat}
+use Rattle.meaning.specs.NumberIntervals.{Set, set1, set2, flag1, flag2, flat, intervals}
 use Rattle.meaning.specs.Sheet.{registers}
 use Rattle.meaning.specs.Reading.{Algebra}
 use Rattle.meaning.specs.Check.{Bands, at, settle, interval_limit}
 use Rattle.meaning.specs.CheckSets.{SoundSet}
+use Rattle.closing.specs.Gaps.{Ends}
 use Rattle.literals.specs.Answer.{kept}
 use Rattle.refusals.specs.declared.Cause.{Cause}
 use Rattle.refusals.specs.Numbers.{number_of}
-use Rattle.cores.specs.declared.Core.{Core}
+use Rattle.replies.specs.declared.Written.{Written}
 use Rattle.cores.specs.declared.Op.TheVariants as op
 use Rattle.cores.specs.Operation.{op2_of as relation_op}
 use Rattle.set_values.specs.declared.form_set.FormSet.{FormSet}
@@ -55,11 +56,17 @@ abbrev pub values : List Set → Algebra (Res Set)
 values S = record { on_lit = λ z. ok (only (kept z)); on_reg = λ r. ok (at S r); on1 = answer1; on2 = answer2 }
 
 -- what an operation leaves in the work slice: the joined set at its front, how many numbers it has, and its flag
-pub record Left (answer : Set) (flag : Bool) (new : List ℤ) (c : Core) : Type 0 where
+pub record Left (answer : Set) (flag : Bool) (new : List ℤ) (c : Written) : Type 0 where
   pub count : c.count ≡ length (flat answer)
   pub room : c.count ≤ length new
   pub front : take c.count new ≡ flat answer
   pub flagged : c.flag ≡ flag
+
+-- what the judgement on an operation's answer asks: the ends of a normal set at the front of the work slice, and a sound result
+pub record Settles (c : Written) (work : List ℤ) : Type 0 where
+  pub room : c.count ≤ length work
+  pub ends : Ends (take c.count work)
+  pub sound : SoundResult (settle interval_limit (intervals (take c.count work)) c.flag)
 
 -- the operation on two sets that a kind stands for
 abbrev pub kind_of : Kind → Option Op2

@@ -1,9 +1,11 @@
 // The set of a form or a register.
 ghost use Rattle.std.proofs.Props.{props};
-ghost use Rattle.set_values.specs.Held.{Held, Normal-prop};
+ghost use Rattle.sets.specs.OneWay.{Normal-prop};
+ghost use Rattle.set_values.specs.Held.{Held};
 
 use interval::Interval;
 use limits::ENDS;
+use sets::{Ends, Operand};
 
 // A set that is normal, not empty, and of at most 16 intervals: how many, and room for their ends, 0 past them.
 // Kept: a count beside fixed room, since nothing is on the heap, and the cores read ends from slices.
@@ -18,7 +20,6 @@ impl FormSet {
     ghost use Rattle.std.specs.Prelude.{◌≡◌, length};
     ghost use Rattle.meaning.specs.Check.{slot, slot_size};
     ghost use Rattle.meaning.specs.NumberIntervals.{intervals, flat};
-    ghost use Rattle.sets.specs.Sets.{Argument};
     ghost use Rattle.set_values.specs.Held.{Few};
     ghost use Rattle.set_values.specs.Value.{set_of};
 
@@ -35,12 +36,21 @@ impl FormSet {
         }
     }
 
-    // The ends of its intervals, one after the other.
-    pub fn ends(&self) -> &[i64]
-        ensures value { result.now ≡ flat (set_of self.now) }
-        ensures sound { Argument result.now }
+    // The ends of its intervals.
+    pub fn numbers(&self) -> &[i64]
+        ensures { result.now ≡ flat (set_of self.now) }
     {
         &self.ends[..2 * self.count]
+    }
+
+    // The ends of its intervals, as the cores take them.
+    pub fn ends(&self) -> Operand
+        ensures { result.set.numbers.now ≡ flat (set_of self.now) }
+    {
+        let numbers = self.numbers();
+        Operand {
+            set: Ends { numbers },
+        }
     }
 
     // Writes how many intervals it has, then room for their ends, 0 past them.

@@ -1,4 +1,4 @@
-// A form's set by value, and the answer of an operation on such sets: 20 if a divisor may be 0, else its set with gaps closed until 16 intervals remain.
+// A form's set by value, and the answer of an operation on such sets: `Cause::ZeroDivisor` if a divisor may be 0, else its set with gaps closed until 16 intervals remain.
 #![tactic(auto)]
 
 ghost use Rattle.std.specs.Prelude.{◌≡◌, false, ◌≤◌, length, take};
@@ -8,56 +8,70 @@ ghost use Rattle.meaning.specs.NumberIntervals.{intervals, of_bools, set1, set2,
 ghost use Rattle.meaning.specs.Check.{settle as settle_of, interval_limit};
 ghost use Rattle.forms.specs.Answer.{op1_of, op2_of};
 ghost use Rattle.bools.specs.Reading.{bools_of};
-ghost use Rattle.sets.specs.Sets.{Argument};
-ghost use Rattle.closing.specs.Gaps.{Ends};
-ghost use Rattle.set_values.specs.Value.{result_of, set_of, SoundResult, Left, kind_of, answer1, answer2};
+ghost use Rattle.cores.specs.Operation.{set_of as joined_of, flag_of};
+ghost use Rattle.set_values.specs.Value.{result_of, set_of, Settles, Left, kind_of, answer1, answer2};
 
 mod form_set;
 mod registers;
 
 use bools::BoolInterval;
-use cores::{Core, Op, Relation};
+use cores::{Op, Relation};
 pub use form_set::FormSet;
 use forms::{Op1, Op2};
 use limits::{INTERVALS, WORK};
 use refusals::Cause;
 pub use registers::Registers;
+use replies::Written;
+use sets::{Ends, Operand};
+use writer::Writer;
 
 // What a form's answer leaves: a zero divisor if its flag is set, else its set with gaps closed until 16 intervals remain.
 #[tactic(auto, using(crate::proofs::Settling::flagged, crate::proofs::Settling::closed_few, crate::proofs::Settling::closed_is))]
-fn settle(work: &mut [i64; WORK], answer: Core) -> Result<FormSet, Cause>
-    requires ends { Ends answer.count work.old }
-    requires sound { SoundResult (settle_of interval_limit (intervals (take answer.count work.old)) answer.flag) }
+fn settle(work: &mut [i64; WORK], answer: Written) -> Result<FormSet, Cause>
+    requires { Settles answer work.old }
     ensures { result_of result ≡ settle_of interval_limit (intervals (take answer.count work.old)) answer.flag }
 {
     if answer.flag {
         return Err(Cause::ZeroDivisor);
     }
-    let n = closing::close(work, answer.count, INTERVALS);
-    Ok(FormSet::new(&work[..n]))
+    let ends = &mut work[..answer.count];
+    let n = closing::close(ends, INTERVALS);
+    Ok(FormSet::new(&ends[..n]))
 }
 
 // A comparison's or a bool's answer at the front of the work slice.
-#[tactic(auto, using(crate::proofs::Settling::left_wrote))]
-fn put_bools(work: &mut [i64; WORK], b: BoolInterval) -> Core
+fn put_bools(work: &mut [i64; WORK], b: BoolInterval) -> Written
     ensures { Left (of_bools (bools_of b)) false work.new result }
 {
-    Core {
-        count: bools::put(work, b),
+    let mut ends = Writer::new(work);
+    bools::put(&mut ends, b);
+    Written {
+        count: ends.len,
         flag: false,
     }
 }
 
-// The answer of an operation on one set.
-fn core1(op: Op1, left: &[i64], work: &mut [i64; WORK]) -> Core
-    requires { Argument left.now }
-    ensures { Left (set1 (op1_of op) (intervals left.now)) (flag1 (op1_of op) false) work.new result }
+// The joined results of all pairs at the front of the work slice.
+fn join(op: Op, left: Operand, right: Operand, work: &mut [i64; WORK]) -> Written
+    ensures { Left (joined_of op (intervals left.entry.set.numbers.now) (intervals right.entry.set.numbers.now))
+        (flag_of op false (intervals left.entry.set.numbers.now) (intervals right.entry.set.numbers.now)) work.new result }
 {
-    let zero = [0; 2];
+    cores::answer(op, work, left, false, right)
+}
+
+// The answer of an operation on one set. A rule of one set does not read the right set, which is 0.
+// Kept: a right set that nobody reads, since one core serves operations on one set and on two: a core for one set would be its twin.
+// Kept: a match in place of a trait, since each row is a call of its own, and the operation is a value read from a text.
+fn core1(op: Op1, left: Operand, work: &mut [i64; WORK]) -> Written
+    ensures { Left (set1 (op1_of op) (intervals left.entry.set.numbers.now)) (flag1 (op1_of op) false) work.new result }
+{
+    let zero = Operand {
+        set: Ends { numbers: &[0; 2] },
+    };
     match op {
-        Op1::Neg => cores::answer(Op::Neg, work, left, false, &zero),
-        Op1::Abs => cores::answer(Op::Abs, work, left, false, &zero),
-        Op1::Not => put_bools(work, bools::not(bools::of_set(left))),
+        Op1::Neg => join(Op::Neg, left, zero, work),
+        Op1::Abs => join(Op::Abs, left, zero, work),
+        Op1::Not => put_bools(work, bools::not(bools::of_set(left.set.numbers))),
     }
 }
 
@@ -69,6 +83,7 @@ enum Kind {
 }
 
 // The kind of the operation that a form names.
+// Kept: a row for each operation, since the forms and the cores name it each by an enum of its own, and the first sorts it by its sets.
 impl From<Op2> for Kind {
     ghost from_gives = { λ op kind. kind_of kind ≡ Some (op2_of op) };
 
@@ -89,13 +104,12 @@ impl From<Op2> for Kind {
 }
 
 // The answer of an operation on two sets.
-fn core2(op: Op2, left: &[i64], right: &[i64], work: &mut [i64; WORK]) -> Core
-    requires { Argument left.now × Argument right.now }
-    ensures { Left (set2 (op2_of op) (intervals left.now) (intervals right.now))
-        (flag2 (op2_of op) false (intervals left.now) (intervals right.now)) work.new result }
+fn core2(op: Op2, left: Operand, right: Operand, work: &mut [i64; WORK]) -> Written
+    ensures { Left (set2 (op2_of op) (intervals left.entry.set.numbers.now) (intervals right.entry.set.numbers.now))
+        (flag2 (op2_of op) false (intervals left.entry.set.numbers.now) (intervals right.entry.set.numbers.now)) work.new result }
 {
     match Kind::from(op) {
-        Kind::Joined(o) => cores::answer(o, work, left, false, right),
+        Kind::Joined(o) => join(o, left, right, work),
         Kind::Related(o) => put_bools(work, cores::rule::relate(o, left, right)),
     }
 }

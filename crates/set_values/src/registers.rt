@@ -1,6 +1,6 @@
 // The sets of all registers.
 ghost use Rattle.std.proofs.Props.{props};
-ghost use Rattle.set_values.specs.Held.{Normal-prop};
+ghost use Rattle.sets.specs.OneWay.{Normal-prop};
 ghost use Rattle.set_values.specs.Slots.{Slots};
 
 use crate::FormSet;
@@ -8,6 +8,7 @@ use interval::Interval;
 use limits::{REGISTERS, SETS, SLOT};
 
 // One array of all registers' numbers, register 0 first: for each how many intervals its set has, then room for their ends, 0 past them.
+// Kept: one array and no array of sets, since by a rule of the project the check is lent the registers in this form and leaves them in it.
 #[derive(Clone, Copy, Debug, PartialEq, Eq)]
 pub struct Registers {
     numbers: [i64; SETS],
@@ -30,6 +31,7 @@ impl Registers {
             lo: i64::MIN,
             hi: i64::MAX,
         });
+        // Kept: by place, since nothing is said of what an array ends as whose parts are lent as chunks.
         for r in 0..REGISTERS {
             any.show(&mut numbers[SLOT * r..SLOT * (r + 1)]);
         }
@@ -45,6 +47,8 @@ impl Registers {
     }
 
     // The set of register r.
+    // Kept: a number with a clause and no type Register, which would go through seven crates and ask the same of each caller.
+    #[tactic(auto, using(crate::proofs::Layouts::few_count, crate::proofs::Layouts::slot_length))]
     pub fn set(&self, r: usize) -> FormSet
         requires { r < registers }
         ensures { set_of result ≡ at (sets_of self.now) r }

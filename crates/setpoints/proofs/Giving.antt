@@ -1,13 +1,16 @@
 -- A call gives or writes what its definition says, and a set that it does not refuse was read by the code, so its numbers are from MIN to MAX: `setpoint_calls` speaks of it. Assumes nothing.
-use Rattle.std.proofs.Common.{◌≡◌, ℕ, ℤ, List, false, sym, ap, subst, ◌∙◌, arith}
+use Rattle.std.proofs.Common.{◌≡◌, ℕ, ℤ, List, false, sym, ap, subst, ◌∙◌, arith, Option, Some, None}
+use Rattle.std.specs.Option.{ok_or}
 use Rattle.meaning.specs.NumberIntervals.{intervals}
-use Rattle.meaning.specs.SetCalls.{Returned}
+use Rattle.meaning.specs.SetCalls.{Returned, refusal}
 use Rattle.meaning.specs.Setpoints.{nearest, near, setpoint_refusal, ReturnedMember, given, withheld, nearest_returns}
 use Rattle.meaning.specs.Closest.{NearestCall, WithinCall}
 use Rattle.meaning.specs.Promises.{Nears, Reaches}
 use Rattle.laws.proofs.Setpoints.{nearest_call, within_call, within_room}
 use Rattle.sets.specs.Sets.{Argument}
 use Rattle.replies.specs.Returning.{Handed}
+use Rattle.refusals.specs.declared.Cause.TheVariants.{EmptySet}
+use Rattle.setpoints.specs.Saying.{member_of, IsClosest}
 use Rattle.set_calls.proofs.Right.{ranged, carried, carried_room}
 
 -- ---- nearest
@@ -28,6 +31,12 @@ module _ (set : List ℤ) (x : ℤ) where
   pub nears_given : 0 ≡ setpoint_refusal set → Argument set → {m : ℤ} → m ≡ nearest (intervals set) x → Nears set x (given m)
   unfolding nearest_returns
   nears_given h a q = nears (grind arith) (λ _. a)
+
+  -- what the code finds in a set that no set call refuses
+  pub nears_found : 0 ≡ refusal set → Argument set → (r : Option ℤ) → IsClosest r (intervals set) x → Nears set x (member_of (ok_or r EmptySet))
+  unfolding setpoint_refusal
+  nears_found h a None f = nears_refused (grind (arith, h, f)) (λ e. absurd (omega (arith, e)))
+  nears_found h a (Some m) f = nears_given (grind (arith, h, f.0)) a f.1
 
 -- ---- within
 

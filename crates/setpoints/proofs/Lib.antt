@@ -1,4 +1,5 @@
 pub mod Windows
-pub mod Turns
+pub mod Picks
 mod Filled
 mod Giving
+pub mod Answered

@@ -3,10 +3,9 @@ use mathlib.Core.Path.{◌≡◌, refl, sym, ap, ◌∙◌}
 use mathlib.Core.Logic.{inl, inr, ⊎_elim}
 use mathlib.Core.List.{List, [], ◌∷◌}
 use mathlib.Core.Bool.{true, ◌&&◌}
-use Prim.Native.Nat.{ℕ, ◌%◌}
+use Prim.Native.Nat.{◌%◌}
 use native.Mathlib.Omega.{arith}
-use lib.ListN.{length, take}
-use lib.Seq.{length-take-le}
+use lib.ListN.{length}
 use lib.IntN.{ℤ}
 use lib.Signed.{le_z}
 use Rattle.meaning.specs.Number.{InRange}
@@ -95,10 +94,8 @@ proper_valid [] h p = tt
 proper_valid (s ∷ []) h p = absurd (omega arith)
 proper_valid (s ∷ e ∷ r) h p = (le_in p.0.ordered, proper_valid r (omega arith) p.1)
 
-pub pairs_valid : {n : ℕ} {l : List ℤ} → Pairs n l → valid (take n l) ≡ true
-pairs_valid {n} {l} p =
-    let e : length (take n l) ≡ n = length-take-le n l p.room in
-    is_valid (take n l) (proper_valid (take n l) (ap (λ (k : ℕ). k % 2) e ∙ p.even) p.proper)
+pub pairs_valid : {l : List ℤ} → Pairs l → valid l ≡ true
+pairs_valid {l} p = is_valid l (proper_valid l p.even p.proper)
 
 -- a list in order with the members of l, joined in one pass, is l's join
 pub join_rebuild : (l m : List ℤ) → AllProper (intervals l) → Sorted m → Within m l → Within l m → join_sorted m ≡ flat (rebuild (intervals l))

@@ -1,64 +1,57 @@
 -- What two normal sets have in common, by one walk over both: the interval that ends first is left behind. Assumes nothing.
-use mathlib.Core.Path.{◌≡◌, refl, sym, ap, subst, ◌∙◌}
+use mathlib.Core.Path.{◌≡◌, refl, sym, ap, ◌∙◌}
 use mathlib.Core.Logic.{◌⊎◌, inl, inr, ⊎_elim}
-use mathlib.Core.List.{List, [], ◌∷◌, ◌++◌, append_assoc, append-nil}
+use mathlib.Core.List.{List, [], ◌∷◌, ◌++◌}
 use mathlib.Core.Bool.{Bool, true, false, cond}
-use Prim.Native.Nat.{ℕ, ◌+◌, ◌-◌, ◌≤◌, ◌<◌}
+use Prim.Native.Nat.{◌+◌, ◌-◌, ◌^◌, ◌≤◌, ◌<◌}
 use native.Mathlib.Omega.{arith}
-use lib.ListN.{length, take, drop, length-drop, take-append-drop}
-use lib.Seq.{length-take-le, take_all}
+use lib.ListN.{length, take, drop, length-drop}
+use lib.Seq.{take_all}
 use lib.IntN.{ℤ}
-use lib.Signed.{le_z}
-use Rattle.std.specs.Int.{int_max}
-use Rattle.meaning.specs.Lists.{over}
-use Rattle.meaning.specs.Number.{larger, smaller}
+use lib.Signed.{le_z, mag}
+use Rattle.meaning.specs.Number.{larger}
+use Rattle.meaning.specs.Interval.{Interval, span, meet_pair}
 use Rattle.meaning.specs.NumberIntervals.{flat, intervals, intersect}
-use Rattle.laws.proofs.Integers.{by_test, le_z_false, le_z_true}
-use Rattle.laws.proofs.Machine.{rd}
-use Rattle.sorting.specs.Order.{In, Le, Lt, Valid, put_pair, valid}
-use Rattle.sorting.proofs.Ends.{Gap, valid_yes, After, NormalEnds, larger_parts, max_is}
-use Rattle.sorting.proofs.Steps.{end_at, drop_two, put_pair_length, put_pair_take, put_pair_drop, drop_later}
-use Rattle.slices.specs.Wrote.{Wrote}
+use Rattle.laws.proofs.Integers.{cond_case, le_z_false, le_z_true}
+use Rattle.laws.proofs.Machine.{back, rd}
+use Rattle.sorting.specs.Order.{In, Le, Lt}
+use Rattle.sorting.proofs.Ends.{Gap, After, NormalEnds, larger_parts}
+use Rattle.sorting.proofs.Steps.{end_at, drop_two}
+use Rattle.slices.specs.Adds.{Adds, Holds}
+use Rattle.writer.specs.declared.Writer.{Writer}
+use Rattle.writer.proofs.Chain.{appends_as}
+use Rattle.writer.proofs.Partly.{Partly, partly_start, partly_as, partly_fits, partly_next, partly_done}
 use Rattle.sets.specs.Sets.{SetEnds}
 use Rattle.sets.proofs.Bridge.{in_ends, ends_in, normal_ends, ends_unique}
 use Rattle.laws.proofs.Compare.{intersect_normal, intersect_holds, intersect_only}
 
--- the interval that ends first is left behind
+-- what the first two intervals have in common, and then the interval that ends first is left behind
 unfoldable pub cross : List ℤ → List ℤ → List ℤ
 cross [] r = []
 cross (s ∷ []) r = []
 cross (s ∷ e ∷ l) [] = []
 cross (s ∷ e ∷ l) (c ∷ []) = []
-cross (s ∷ e ∷ l) (c ∷ d ∷ r) =
-    cond (le_z e d)
-    (cond (le_z (larger s c) e) (larger s c ∷ e ∷ cross l (c ∷ d ∷ r)) (cross l (c ∷ d ∷ r)))
-    (cond (le_z (larger s c) d) (larger s c ∷ d ∷ cross (s ∷ e ∷ l) r) (cross (s ∷ e ∷ l) r))
+cross (s ∷ e ∷ l) (c ∷ d ∷ r) = flat (meet_pair s e c d) ++ cond (le_z e d) (cross l (c ∷ d ∷ r)) (cross (s ∷ e ∷ l) r)
 
-module _ (s e : ℤ) (l : List ℤ) (c d : ℤ) (r : List ℤ) where
-  cross_case
-      : (P : List ℤ → Type 0)
-      → (Le e d → Le (larger s c) e → P (larger s c ∷ e ∷ cross l (c ∷ d ∷ r)))
-      → (Le e d → Lt e (larger s c) → P (cross l (c ∷ d ∷ r)))
-      → (Lt d e → Le (larger s c) d → P (larger s c ∷ d ∷ cross (s ∷ e ∷ l) r))
-      → (Lt d e → Lt d (larger s c) → P (cross (s ∷ e ∷ l) r))
-      → P (cross (s ∷ e ∷ l) (c ∷ d ∷ r))
-  unfolding cross
-  cross_case P f g h k = go (le_z e d) refl (le_z (larger s c) e) refl (le_z (larger s c) d) refl
-    where
-      go : (t : Bool) → le_z e d ≡ t → (u : Bool) → le_z (larger s c) e ≡ u → (v : Bool) → le_z (larger s c) d ≡ v
-          → P (cond t (cond u (larger s c ∷ e ∷ cross l (c ∷ d ∷ r)) (cross l (c ∷ d ∷ r))) (cond v (larger s c ∷ d ∷ cross (s ∷ e ∷ l) r) (cross (s ∷ e ∷ l) r)))
-      go true p true q v w = f (le_z_true e d p) (le_z_true (larger s c) e q)
-      go true p false q v w = g (le_z_true e d p) (le_z_false (larger s c) e q)
-      go false p u q true w = h (le_z_false e d p) (le_z_true (larger s c) d w)
-      go false p u q false w = k (le_z_false e d p) (le_z_false (larger s c) d w)
+-- a fact of the walk, by whether e is at most d, and whether anything is common
+cross_case
+    : (s e : ℤ) (l : List ℤ) (c d : ℤ) (r : List ℤ) (P : List ℤ → Type 0)
+    → (Le e d → Le (larger s c) e → P (larger s c ∷ e ∷ cross l (c ∷ d ∷ r)))
+    → (Le e d → Lt e (larger s c) → P (cross l (c ∷ d ∷ r)))
+    → (Lt d e → Le (larger s c) d → P (larger s c ∷ d ∷ cross (s ∷ e ∷ l) r))
+    → (Lt d e → Lt d (larger s c) → P (cross (s ∷ e ∷ l) r))
+    → P (cross (s ∷ e ∷ l) (c ∷ d ∷ r))
+unfolding cross flat meet_pair
+cross_case s e l c d r P f g h k = go (le_z e d) refl
+  where
+    shared : (x : ℤ) (m : List ℤ) → (Le (larger s c) x → P (larger s c ∷ x ∷ m)) → (Lt x (larger s c) → P m) → P (flat (cond (le_z (larger s c) x) (span (larger s c) x) []) ++ m)
+    shared x m y n =
+        cond_case (λ z. P (flat z ++ m)) (le_z (larger s c) x) (span (larger s c) x) [] (λ q. y (le_z_true (larger s c) x q)) (λ q. n (le_z_false (larger s c) x q))
 
-  -- what a turn writes, and what it leaves to be done
-  pub cross_rest : List ℤ
-  cross_rest = cond (le_z e d) (cross l (c ∷ d ∷ r)) (cross (s ∷ e ∷ l) r)
-
-  cross_turn : cross (s ∷ e ∷ l) (c ∷ d ∷ r) ≡ cond (le_z (larger s c) (smaller e d)) (larger s c ∷ smaller e d ∷ cross_rest) cross_rest
-  unfolding cross cross_rest
-  cross_turn = by_test (le_z e d) (λ t. rw t refl) (λ t. rw t refl)
+    go : (t : Bool) → le_z e d ≡ t
+        → P (flat (cond (le_z (larger s c) (cond t e d)) (span (larger s c) (cond t e d)) []) ++ cond t (cross l (c ∷ d ∷ r)) (cross (s ∷ e ∷ l) r))
+    go true p = shared e (cross l (c ∷ d ∷ r)) (f (le_z_true e d p)) (g (le_z_true e d p))
+    go false p = shared d (cross (s ∷ e ∷ l) r) (h (le_z_false e d p)) (k (le_z_false e d p))
 
 -- the larger of two starts
 not_below_left : (s c : ℤ) → Le s (larger s c)
@@ -206,22 +199,12 @@ cross_none (s ∷ e ∷ l) [] h = refl
 cross_none (s ∷ e ∷ l) (c ∷ []) h = refl
 cross_none (s ∷ e ∷ l) (c ∷ d ∷ r) h = absurd (omega arith)
 
--- what stands before `at` is written, and `rest` is still to come
-pub record Crossing (l r old new rest : List ℤ) (at : ℕ) : Type 0 where
-  pub long : length new ≡ length old
-  pub kept : drop at new ≡ drop at old
-  pub so_far : take at new ++ rest ≡ cross l r
+-- the walk over both sets is written, all but the walk over what is left of them
+pub record Walking (l r lefts rights : List ℤ) (new old : Writer ℤ) : Type 0 where
+  pub part : Partly (cross l r) (cross lefts rights) new old
 
--- the walk over what is left of both
-pub record Walking (l r old new lefts rights : List ℤ) (at : ℕ) : Type 0 where
-  pub room : at + (length lefts + length rights) ≤ length old
-  pub whole_l : Valid lefts
-  pub whole_r : Valid rights
-  pub step : Crossing l r old new (cross lefts rights) at
-
-pub walking_start : (l r old : List ℤ) → length l + length r ≤ length old → valid l ≡ true → valid r ≡ true → Walking l r old old l r 0
-walking_start l r old h v u =
-    record { room = omega (arith, h); whole_l = valid_yes l v; whole_r = valid_yes r u; step = record { long = refl; kept = refl; so_far = refl } }
+pub walking_start : (l r : List ℤ) (w : Writer ℤ) → w.len + (length l + length r) ≤ length w.room.now → Walking l r l r w w
+walking_start l r w h = record { part = partly_start (cross l r) w (omega (arith, h, cross_length l r)) }
 
 -- what follows the first interval
 abbrev pub rest_of : List ℤ → List ℤ
@@ -230,102 +213,41 @@ rest_of l = take (length l - 2) (drop 2 l)
 first_two : (l : List ℤ) → 2 ≤ length l → l ≡ end_at l 0 ∷ end_at l 1 ∷ rest_of l
 first_two l h = drop_two l 0 h ∙ ap (λ (k : List ℤ). end_at l 0 ∷ end_at l 1 ∷ k) (sym (take_all (length l - 2) (drop 2 l) (omega (arith, length-drop 2 l))))
 
-module _ {l r old new ls rs : List ℤ} {at : ℕ} (m : Walking l r old new ls rs at) (p : 2 ≤ length ls) (q : 2 ≤ length rs) where
-  abbrev pub to_come : List ℤ
-  to_come = cross_rest (end_at ls 0) (end_at ls 1) (rest_of ls) (end_at rs 0) (end_at rs 1) (rest_of rs)
+-- what one turn writes, with the ends as the code reads them, and what it leaves to be done
+abbrev pub common : List ℤ → List ℤ → List Interval
+common ls rs = meet_pair (rd (end_at ls 0)) (rd (end_at ls 1)) (rd (end_at rs 0)) (rd (end_at rs 1))
 
-  two : cross ls rs ≡ cond (le_z (larger (end_at ls 0) (end_at rs 0)) (smaller (end_at ls 1) (end_at rs 1))) (larger (end_at ls 0) (end_at rs 0) ∷ smaller (end_at ls 1) (end_at rs 1) ∷ to_come) to_come
+abbrev to_come : List ℤ → List ℤ → List ℤ
+to_come ls rs = cond (le_z (rd (end_at ls 1)) (rd (end_at rs 1))) (cross (rest_of ls) rs) (cross ls (rest_of rs))
+
+module _ {l r ls rs : List ℤ} {new old : Writer ℤ} (m : Walking l r ls rs new old) (p : 2 ≤ length ls) (q : 2 ≤ length rs)
+    (a : mag (end_at ls 0) < 2 ^ 63) (b : mag (end_at ls 1) < 2 ^ 63) (c : mag (end_at rs 0) < 2 ^ 63) (d : mag (end_at rs 1) < 2 ^ 63) where
+  two : cross ls rs ≡ flat (common ls rs) ++ to_come ls rs
+  unfolding cross
   two =
-      ap (λ (k : List ℤ). cross k rs) (first_two ls p) ∙ ap (cross (end_at ls 0 ∷ end_at ls 1 ∷ rest_of ls)) (first_two rs q)
-      ∙ cross_turn (end_at ls 0) (end_at ls 1) (rest_of ls) (end_at rs 0) (end_at rs 1) (rest_of rs)
+      (λ i. cross (first_two ls p i) (first_two rs q i))
+      ∙ sym (λ i. flat (meet_pair (back (end_at ls 0) a i) (back (end_at ls 1) b i) (back (end_at rs 0) c i) (back (end_at rs 1) d i))
+      ++ cond (le_z (back (end_at ls 1) b i) (back (end_at rs 1) d i)) (cross (rest_of ls) (first_two rs q i)) (cross (first_two ls p i) (rest_of rs)))
 
-  pub turn_room : at + 2 ≤ length new
-  turn_room = omega (arith, m.room, m.step.long, p)
+  turn : Partly (cross l r) (flat (common ls rs) ++ to_come ls rs) new old
+  turn = partly_as two m.part
 
-  -- up to the end that comes first
-  module _ {hi : ℤ} (first : hi ≡ smaller (end_at ls 1) (end_at rs 1)) where
-    -- the common part is written
-    pub crossing_out
-        : le_z (larger (end_at ls 0) (end_at rs 0)) hi ≡ true
-        → Crossing l r old (put_pair new at (larger (end_at ls 0) (end_at rs 0)) hi) to_come (at + 2)
-    crossing_out h =
-        record {
-          long = put_pair_length new at _ _ turn_room ∙ m.step.long;
-          kept = put_pair_drop new at _ _ turn_room (at + 2) (omega arith) ∙ drop_later new old at (at + 2) m.step.kept (omega arith);
-          so_far =
-              ap (λ (k : List ℤ). k ++ to_come) (put_pair_take new at (larger (end_at ls 0) (end_at rs 0)) hi turn_room)
-              ∙ append_assoc (take at new) (larger (end_at ls 0) (end_at rs 0) ∷ hi ∷ []) to_come
-              ∙ ap (λ (k : List ℤ). take at new ++ k) (sym (rw (← first, h) at two))
-              ∙ m.step.so_far;
-        }
+  pub turn_fits : old.len + (length l + length r) ≤ length old.room.now → Holds (common ls rs) new
+  turn_fits h = partly_fits (flat (common ls rs)) (to_come ls rs) turn (omega (arith, h, cross_length l r))
 
-    -- nothing is common
-    pub crossing_none : le_z (larger (end_at ls 0) (end_at rs 0)) hi ≡ false → Crossing l r old new to_come at
-    crossing_none h =
-        record { long = m.step.long; kept = m.step.kept; so_far = ap (λ (k : List ℤ). take at new ++ k) (sym (rw (← first, h) at two)) ∙ m.step.so_far }
+  module _ {next : Writer ℤ} (w : Adds (common ls rs) next new) where
+    written : Partly (cross l r) (to_come ls rs) next old
+    written = partly_next (flat (common ls rs)) (to_come ls rs) turn w.ends
 
-  module _ {next : List ℤ} {on : ℕ} (x : Crossing l r old next to_come on) (n : on ≤ at + 2) where
-    pub walking_left : le_z (end_at ls 1) (end_at rs 1) ≡ true → Walking l r old next (rest_of ls) rs on
-    unfolding cross_rest
-    walking_left h =
-        record {
-          room = omega (arith, m.room, n, p, ap length (first_two ls p));
-          whole_l = (subst Valid (first_two ls p) m.whole_l).1;
-          whole_r = m.whole_r;
-          step = subst (λ (k : List ℤ). Crossing l r old next (cross (rest_of ls) k) on) (sym (first_two rs q)) (rw h at x);
-        }
+    pub turn_left : le_z (rd (end_at ls 1)) (rd (end_at rs 1)) ≡ true → Walking l r (rest_of ls) rs next old
+    turn_left h = record { part = rw h at written }
 
-    pub walking_right : le_z (end_at ls 1) (end_at rs 1) ≡ false → Walking l r old next ls (rest_of rs) on
-    unfolding cross_rest
-    walking_right h =
-        record {
-          room = omega (arith, m.room, n, q, ap length (first_two rs q));
-          whole_l = m.whole_l;
-          whole_r = (subst Valid (first_two rs q) m.whole_r).1;
-          step = subst (λ (k : List ℤ). Crossing l r old next (cross k (rest_of rs)) on) (sym (first_two ls p)) (rw h at x);
-        }
-
-  -- the four ends of a turn as the code reads them
-  module _ {lo : ℤ} (f : rd lo ≡ lo) (g : lo ≡ int_max (rd (end_at ls 0)) (rd (end_at rs 0))) (a : rd (end_at ls 0) ≡ end_at ls 0) (b : rd (end_at rs 0) ≡ end_at rs 0)
-      (x : rd (end_at ls 1) ≡ end_at ls 1) (y : rd (end_at rs 1) ≡ end_at rs 1) where
-    start : rd lo ≡ larger (end_at ls 0) (end_at rs 0)
-    start = f ∙ g ∙ max_is (rd (end_at ls 0)) (rd (end_at rs 0)) ∙ (λ i. larger (a i) (b i))
-
-    module _ (h : le_z (rd (end_at ls 1)) (rd (end_at rs 1)) ≡ true) where
-      ends_left : le_z (end_at ls 1) (end_at rs 1) ≡ true
-      ends_left = rw (x, y) at h
-
-      left_first : end_at ls 1 ≡ smaller (end_at ls 1) (end_at rs 1)
-      left_first = let t = ends_left in rw t refl
-
-      pub turn_left_out : le_z (rd lo) (rd (end_at ls 1)) ≡ true → {w : List ℤ} → w ≡ put_pair new at (rd lo) (rd (end_at ls 1)) → Walking l r old w (rest_of ls) rs (at + 2)
-      turn_left_out k z = rw (z, start, x) (walking_left (crossing_out left_first (rw (start, x) at k)) (omega arith) ends_left)
-
-      pub turn_left : le_z (rd lo) (rd (end_at ls 1)) ≡ false → Walking l r old new (rest_of ls) rs at
-      turn_left k = walking_left (crossing_none left_first (rw (start, x) at k)) (omega arith) ends_left
-
-    module _ (h : le_z (rd (end_at ls 1)) (rd (end_at rs 1)) ≡ false) where
-      ends_right : le_z (end_at ls 1) (end_at rs 1) ≡ false
-      ends_right = rw (x, y) at h
-
-      right_first : end_at rs 1 ≡ smaller (end_at ls 1) (end_at rs 1)
-      right_first = let t = ends_right in rw t refl
-
-      pub turn_right_out : le_z (rd lo) (rd (end_at rs 1)) ≡ true → {w : List ℤ} → w ≡ put_pair new at (rd lo) (rd (end_at rs 1)) → Walking l r old w ls (rest_of rs) (at + 2)
-      turn_right_out k z = rw (z, start, y) (walking_right (crossing_out right_first (rw (start, y) at k)) (omega arith) ends_right)
-
-      pub turn_right : le_z (rd lo) (rd (end_at rs 1)) ≡ false → Walking l r old new ls (rest_of rs) at
-      turn_right k = walking_right (crossing_none right_first (rw (start, y) at k)) (omega arith) ends_right
+    pub turn_right : le_z (rd (end_at ls 1)) (rd (end_at rs 1)) ≡ false → Walking l r ls (rest_of rs) next old
+    turn_right h = record { part = rw h at written }
 
 -- one of the two is at its end
-pub walking_done
-    : {l r old new lefts rights : List ℤ} {at : ℕ} → Walking l r old new lefts rights at → SetEnds l → SetEnds r → (length lefts < 2) ⊎ (length rights < 2)
-    → Wrote at (intersect (intervals l) (intervals r)) new old
-unfolding over
-walking_done {l} {r} {old} {new} {lefts} {rights} {at} m a b h =
+pub walking_done : {l r lefts rights : List ℤ} {new old : Writer ℤ} → Walking l r lefts rights new old → SetEnds l → SetEnds r → (length lefts < 2) ⊎ (length rights < 2)
+    → Adds (intersect (intervals l) (intervals r)) new old
+walking_done {l} {r} {lefts} {rights} m a b h =
     let e : cross lefts rights ≡ [] = ⊎_elim (λ p. cross_short lefts rights p) (λ p. cross_none lefts rights p) h in
-    let f : take at new ≡ cross l r = sym (append-nil (take at new)) ∙ ap (λ (k : List ℤ). take at new ++ k) (sym e) ∙ m.step.so_far in
-    let n : at ≡ length (cross l r) = sym (length-take-le at new (omega (arith, m.room, m.step.long))) ∙ ap length f in
-    let o : new ≡ over (cross l r) old = sym (take-append-drop at new) ∙ ap (λ (k : List ℤ). k ++ drop at new) f ∙ ap (λ (k : List ℤ). cross l r ++ k) (m.step.kept ∙ ap (λ (k : ℕ). drop k old) n) in
-    let w = walked l r a b in
-    record { count = n ∙ ap length w; left = o ∙ ap (λ (k : List ℤ). over k old) w; room = omega (arith, m.room) }
+    record { ends = appends_as (walked l r a b) (partly_done (partly_as e m.part)) }

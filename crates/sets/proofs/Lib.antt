@@ -3,5 +3,7 @@ pub mod Chunks
 pub mod Cross
 pub mod Joining
 pub mod Merged
+pub mod Shared
 pub mod Rooms
 pub mod Reading
+pub mod Operands

@@ -6,9 +6,8 @@ use Prim.Native.Nat.{ℕ, ◌+◌, ◌-◌, ◌≤◌, ◌<◌}
 use native.Mathlib.Omega.{arith}
 use borrow.Rule.Slice.PartMut.{put_mid, Post-is}
 use lib.ListN.{length, take, drop, length-append, length-drop}
-use lib.Seq.{length-take-le, take_at, drop_at, take_all}
+use lib.Seq.{length-take-le, take_at, drop_at, take-append-le}
 use lib.IntN.{ℤ}
-use Rattle.meaning.specs.NumberIntervals.{flat, intervals, union}
 use Rattle.sorting.specs.Order.{Swept, Valid, join_sorted, merge, valid}
 use Rattle.sorting.proofs.Ends.{valid_yes}
 use Rattle.sets.specs.Sets.{SetEnds, United}
@@ -48,16 +47,18 @@ module _ (w right ys : List ℤ) (n : ℕ) (h : n + length right ≤ length w) (
   pub laid_back : drop n (take (n + length right) (put_mid n (n + length right - n) w ys)) ≡ right
   laid_back = ap (drop n) laid ∙ drop_at (take n w) right n (length-take-le n w (omega (arith, h)))
 
-pub take_whole : (l : List ℤ) → take (length l) l ≡ l
-take_whole l = take_all (length l) l (omega arith)
-
--- one pass over the merged numbers zs, which stand before what is left of w
-pub united_by : (l r w placed zs new : List ℤ) (k n : ℕ) → SetEnds l → SetEnds r → k ≡ length l + length r → length zs ≡ k → zs ≡ merge l r
-    → drop k placed ≡ drop k w → Swept k (zs ++ drop k placed) new n → United l r w new n
-united_by l r w placed zs new k n a b d e m h s =
-    let f : join_sorted (take k (zs ++ drop k placed)) ≡ flat (union (intervals l) (intervals r)) = ap join_sorted (take_at zs (drop k placed) k e ∙ m) ∙ united l r a b in
-    let g : drop k new ≡ drop k w = s.rest ∙ drop_at zs (drop k placed) k e ∙ h in
-    record { count = s.count ∙ ap length f; room = omega (arith, s.room, d); front = s.front ∙ f; rest = ap (λ (j : ℕ). drop j new) (sym d) ∙ g ∙ ap (λ (j : ℕ). drop j w) d }
+-- one pass over the merged numbers zs leaves ys of them, which stand before what is left of w
+pub united_by : (l r w placed zs ys : List ℤ) (k n : ℕ) → SetEnds l → SetEnds r → k ≡ length l + length r → length zs ≡ k → zs ≡ merge l r
+    → drop k placed ≡ drop k w → length ys ≡ length zs → Swept zs ys n → United l r w (ys ++ drop k placed) n
+united_by l r w placed zs ys k n a b d e m h q s =
+    let f = ap join_sorted m ∙ united l r a b in
+    let g : drop k (ys ++ drop k placed) ≡ drop k w = drop_at ys (drop k placed) k (q ∙ e) ∙ h in
+    record {
+      count = s.count ∙ ap length f;
+      room = omega (arith, s.room, e, d);
+      front = take-append-le n ys (drop k placed) (omega (arith, s.room, q)) ∙ s.front ∙ f;
+      rest = ap (λ (j : ℕ). drop j (ys ++ drop k placed)) (sym d) ∙ g ∙ ap (λ (j : ℕ). drop j w) d;
+    }
 
 pub united_few : (l r w : List ℤ) → SetEnds l → SetEnds r → length l + length r < 2 → United l r w w 0
 united_few l r w a b h =

@@ -1,19 +1,17 @@
--- One turn of a loop over a slice of ends: what the definitions say of `drop i s` by what stands at i. Assumes nothing.
-use mathlib.Core.Path.{◌≡◌, refl, ap, ◌∙◌}
-use mathlib.Core.List.{List}
+-- The test of a slice of ends for the normal form: each turn passes one interval, and what is left decides. Assumes nothing.
+use mathlib.Core.Path.{◌≡◌, refl, sym, ap, ◌∙◌}
+use mathlib.Core.List.{List, [], ◌∷◌, ◌++◌, append_assoc}
 use mathlib.Core.Bool.{Bool, true, false, ◌&&◌}
-use Prim.Native.Nat.{ℕ, suc, ◌+◌, ◌≤◌, ◌<◌}
+use Prim.Native.Nat.{◌≤◌, ◌<◌}
 use native.Mathlib.Omega.{arith}
-use lib.ListN.{length, take, drop, drop_of_length-le}
-use lib.Seq.{take_all}
-use lib.IntN.{ℤ, pos}
+use lib.ListN.{length, drop}
+use lib.IntN.{ℤ}
 use lib.Signed.{le_z}
 use Rattle.meaning.specs.Lists.{All}
 use Rattle.meaning.specs.Number.{InRange}
-use Rattle.meaning.specs.NumberIntervals.{apart, normal, starts_after}
-use Rattle.laws.proofs.Integers.{and_left}
-use Rattle.laws.proofs.All.{all_next}
-use Rattle.sorting.proofs.Steps.{end_at, drop_one, drop_two, drop_last}
+use Rattle.meaning.specs.NumberIntervals.{apart, normal, Normal, intervals}
+use Rattle.laws.proofs.Flat.{ends_normal}
+use Rattle.sorting.proofs.Steps.{end_at}
 
 regroup : (a b c : Bool) → (a && (b && c)) ≡ ((a && b) && c)
 regroup true b c = refl
@@ -23,41 +21,95 @@ and_true : (a : Bool) → (a && true) ≡ a
 and_true true = refl
 and_true false = refl
 
-module _ (s : List ℤ) (i : ℕ) where
-  pub normal_end : length s ≤ i → normal (drop i s) ≡ true
+all_joined : (l m : List ℤ) → All InRange l → All InRange m → All InRange (l ++ m)
+all_joined [] m p q = q
+all_joined (x ∷ l) m p q = (p.0, all_joined l m p.1 q)
+
+-- before a turn `ends` is left of s
+pub record Passed (s ends : List ℤ) : Type 0 where
+  pub done : List ℤ
+  pub whole : s ≡ done ++ ends
+  pub ranged : All InRange done
+  pub same : normal s ≡ normal ends
+
+pub passed_start : (s : List ℤ) → Passed s s
+passed_start s = record { done = []; whole = refl; ranged = tt; same = refl }
+
+-- the first interval, and the next one apart from it
+normal_three : (l : List ℤ) → 3 ≤ length l → normal l ≡ ((le_z (end_at l 0) (end_at l 1) && apart (end_at l 1) (end_at l 2)) && normal (drop 2 l))
+unfolding normal
+normal_three [] h = absurd (omega arith)
+normal_three (a ∷ []) h = absurd (omega arith)
+normal_three (a ∷ b ∷ []) h = absurd (omega arith)
+normal_three (a ∷ b ∷ c ∷ r) h = regroup (le_z a b) (apart b c) (normal (c ∷ r))
+
+front_two : (l : List ℤ) → 2 ≤ length l → l ≡ end_at l 0 ∷ end_at l 1 ∷ drop 2 l
+front_two [] h = absurd (omega arith)
+front_two (a ∷ []) h = absurd (omega arith)
+front_two (a ∷ b ∷ r) h = refl
+
+none : (l : List ℤ) → length l < 1 → l ≡ []
+none [] h = refl
+none (a ∷ l) h = absurd (omega arith)
+
+odd : (l : List ℤ) → length l ≡ 1 → normal l ≡ false
+unfolding normal
+odd [] h = absurd (omega arith)
+odd (a ∷ []) h = refl
+odd (a ∷ b ∷ l) h = absurd (omega arith)
+
+last : (l : List ℤ) → length l ≡ 2 → normal l ≡ le_z (end_at l 0) (end_at l 1)
+unfolding normal
+last [] h = absurd (omega arith)
+last (a ∷ []) h = absurd (omega arith)
+last (a ∷ b ∷ []) h = and_true (le_z a b)
+last (a ∷ b ∷ c ∷ l) h = absurd (omega arith)
+
+both : (l : List ℤ) → length l ≡ 2 → InRange (end_at l 0) → InRange (end_at l 1) → All InRange l
+both [] h q r = tt
+both (a ∷ []) h q r = absurd (omega arith)
+both (a ∷ b ∷ []) h q r = (q, (r, tt))
+both (a ∷ b ∷ c ∷ l) h q r = absurd (omega arith)
+
+module _ {s ends : List ℤ} (p : Passed s ends) where
+  module _ (h : 3 ≤ length ends) where
+    pub passed_next
+        : (le_z (end_at ends 0) (end_at ends 1) && apart (end_at ends 1) (end_at ends 2)) ≡ true → InRange (end_at ends 0) → InRange (end_at ends 1)
+        → Passed s (drop 2 ends)
+    passed_next t q r = record {
+      done = p.done ++ end_at ends 0 ∷ end_at ends 1 ∷ [];
+      whole = p.whole ∙ ap (λ (l : List ℤ). p.done ++ l) (front_two ends (omega arith)) ∙ sym (append_assoc p.done (end_at ends 0 ∷ end_at ends 1 ∷ []) (drop 2 ends));
+      ranged = all_joined p.done (end_at ends 0 ∷ end_at ends 1 ∷ []) p.ranged (q, (r, tt));
+      same = p.same ∙ normal_three ends h ∙ ap (λ (b : Bool). b && normal (drop 2 ends)) t;
+    }
+
+    pub passed_not : (le_z (end_at ends 0) (end_at ends 1) && apart (end_at ends 1) (end_at ends 2)) ≡ false → false ≡ normal s
+    passed_not t = sym (p.same ∙ normal_three ends h ∙ ap (λ (b : Bool). b && normal (drop 2 ends)) t)
+
+  normal_whole : normal s ≡ true → All InRange ends → Normal (intervals s)
+  normal_whole t q = ends_normal s t (rw p.whole (all_joined p.done ends p.ranged q))
+
+  -- nothing is left
+  pub passed_none : length ends < 1 → (true ≡ normal s) × Normal (intervals s)
   unfolding normal
-  normal_end h = rw (drop_of_length-le s h)
+  passed_none h =
+      let t = p.same ∙ ap normal (none ends h) in
+      (sym t, normal_whole t (rw (none ends h) tt))
 
-  pub normal_last : i < length s → length s < i + 2 → normal (drop i s) ≡ false
-  unfolding normal
-  normal_last h k = rw (drop_last s i h k)
+  -- the last interval
+  pub passed_two : length ends ≡ 2 → le_z (end_at ends 0) (end_at ends 1) ≡ normal s
+  passed_two h = sym (p.same ∙ last ends h)
 
-  pub normal_two : i + 2 ≤ length s → normal (drop i s) ≡ (le_z (end_at s i) (end_at s (i + 1)) && (starts_after (end_at s (i + 1)) (drop (i + 2) s) && normal (drop (i + 2) s)))
-  unfolding normal
-  normal_two h = rw (drop_two s i h)
+  pub normal_two : length ends ≡ 2 → InRange (end_at ends 0) → InRange (end_at ends 1) → le_z (end_at ends 0) (end_at ends 1) ≡ true → Normal (intervals s)
+  normal_two h q r t = normal_whole (sym (passed_two h) ∙ t) (both ends h q r)
 
-  pub normal_one : i + 2 ≡ length s → normal (drop i s) ≡ le_z (end_at s i) (end_at s (i + 1))
-  unfolding normal
-  normal_one h = normal_two (omega arith) ∙ rw (drop_of_length-le s {i = i + 2} (omega arith)) (and_true (le_z (end_at s i) (end_at s (i + 1))))
+  -- half an interval
+  pub passed_odd : length ends ≡ 1 → false ≡ normal s
+  passed_odd h = sym (p.same ∙ odd ends h)
 
-  pub normal_not : i + 2 ≤ length s → (le_z (end_at s i) (end_at s (i + 1)) && starts_after (end_at s (i + 1)) (drop (i + 2) s)) ≡ false → normal (drop i s) ≡ false
-  normal_not h e = normal_two h ∙ regroup (le_z (end_at s i) (end_at s (i + 1))) (starts_after (end_at s (i + 1)) (drop (i + 2) s)) (normal (drop (i + 2) s)) ∙ and_left (normal (drop (i + 2) s)) e
+-- the two tests of a turn, the second made only if the first holds
+pub both_made : (a b c : ℤ) {found v : Bool} → le_z a b ≡ true → found ≡ apart b c → v ≡ found → (le_z a b && apart b c) ≡ v
+both_made a b c t u w = ap (λ (x : Bool). x && apart b c) t ∙ sym u ∙ sym w
 
-  pub normal_so : i + 2 ≤ length s → (le_z (end_at s i) (end_at s (i + 1)) && starts_after (end_at s (i + 1)) (drop (i + 2) s)) ≡ true → normal (drop i s) ≡ normal (drop (i + 2) s)
-  normal_so h e = normal_two h ∙ regroup (le_z (end_at s i) (end_at s (i + 1))) (starts_after (end_at s (i + 1)) (drop (i + 2) s)) (normal (drop (i + 2) s)) ∙ ap (λ (t : Bool). t && normal (drop (i + 2) s)) e
-
-  pub after_more : (e : ℤ) → i < length s → starts_after e (drop i s) ≡ apart e (end_at s i)
-  after_more e h = rw (drop_one s i h)
-
--- the first i numbers are in range, and so is the next one
-range_next : (s : List ℤ) (i : ℕ) → i < length s → All InRange (take i s) → InRange (end_at s i) → All InRange (take (suc i) s)
-range_next s i h p q = all_next InRange s i (pos 0) h p q
-
-pub range_two : (s : List ℤ) (i : ℕ) → i + 2 ≤ length s → All InRange (take i s) → InRange (end_at s i) → InRange (end_at s (i + 1)) → All InRange (take (i + 2) s)
-range_two s i h p q r =
-    let e : suc i ≡ i + 1 = omega arith in
-    let f : suc (suc i) ≡ i + 2 = omega arith in
-    rw (← f) (range_next s (suc i) (omega arith) (range_next s i (omega arith) p q) (rw e r))
-
-pub range_all : (s : List ℤ) (i : ℕ) → length s ≤ i → All InRange (take i s) → All InRange s
-range_all s i h p = rw (take_all i s h) at p
+pub one_made : (a b c : ℤ) {v : Bool} → le_z a b ≡ false → v ≡ false → (le_z a b && apart b c) ≡ v
+one_made a b c t w = ap (λ (x : Bool). x && apart b c) t ∙ sym w

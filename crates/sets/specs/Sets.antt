@@ -14,18 +14,16 @@ pub record Argument (l : List ℤ) : Type 0 where
   pub set : SetEnds l
   pub few : length l ≤ 32
 
--- the first n numbers of l are the ends of intervals, in any order
-pub record Pairs (n : ℕ) (l : List ℤ) : Type 0 where
-  pub room : n ≤ length l
-  pub even : n % 2 ≡ 0
-  pub proper : All (λ i. Proper i.lo i.hi) (intervals (take n l))
+-- l is the ends of intervals, in any order
+pub record Pairs (l : List ℤ) : Type 0 where
+  pub even : length l % 2 ≡ 0
+  pub proper : All (λ i. Proper i.lo i.hi) (intervals l)
 
--- the first r numbers are the join of the first n; from n on nothing is changed
-pub record Rebuilt (n : ℕ) (old new : List ℤ) (r : ℕ) : Type 0 where
-  pub count : r ≡ length (flat (rebuild (intervals (take n old))))
-  pub room : r ≤ n
-  pub front : take r new ≡ flat (rebuild (intervals (take n old)))
-  pub rest : drop n new ≡ drop n old
+-- the first r numbers are the join of all of them
+pub record Rebuilt (old new : List ℤ) (r : ℕ) : Type 0 where
+  pub count : r ≡ length (flat (rebuild (intervals old)))
+  pub room : r ≤ length old
+  pub front : take r new ≡ flat (rebuild (intervals old))
 
 -- the first r numbers are the union; from the length of both arguments on nothing is changed
 pub record United (l m old new : List ℤ) (r : ℕ) : Type 0 where

@@ -11,6 +11,7 @@ use lib.Dec.{eqb}
 use lib.ListN.{length, get_or, set, replicate, length-set, length-replicate}
 use lib.Seq.{get_or-set_same, get_or-set_other}
 use borrow.Author.Tests.{eqb-true, eqb-false}
+use Rattle.std.specs.Borrow.{Bor}
 use Rattle.std.specs.Prelude.{Result, Ok, Err}
 use Rattle.meaning.specs.Outcome.{ok, stop, bind}
 use Rattle.meaning.specs.Sheet.{registers, Line as Form, Act, put, hold, input, act, FineLine}
@@ -46,9 +47,9 @@ unfolding read_one bind admit
 act_taken b kept before h a e = (record { line = act a; seen = record { other = true; taken = before.taken } }, rw e, record { size = h.size; other = refl; each = h.each })
 
 -- a line that is read: `e` says what the code has of it
-module _ (b : List ℕ) {l : Line} (el : line_from b (Ok l) ≡ read_line b) where
+module _ (b : List ℕ) {l : Line} (el : line_from (Ok l) ≡ read_line b) where
   in_line : {r : ℕ} {range : Interval} → l ≡ In r range → read_line b ≡ ok (input r range.lo range.hi)
-  in_line e = sym el ∙ ap (λ x. line_from b (Ok x)) e
+  in_line e = sym el ∙ ap (λ x. line_from (Ok x)) e
 
   -- an `in` line's register is there
   pub in_there : {r : ℕ} {range : Interval} → l ≡ In r range → r < registers
@@ -78,9 +79,9 @@ module _ (b : List ℕ) {l : Line} (el : line_from b (Ok l) ≡ read_line b) whe
         },
       )
 
-    pub act_read : ((r : ℕ) × (j : ℕ) × (l ≡ Put r j)) ⊎ ((r : ℕ) × (range : Interval) × (l ≡ Hold r range)) → Reads (Ok tt) (record { other = true; taken = kept.taken }) (read_one before b)
-    act_read (inl p) = let x = put_reads b p.0 p.1 (ap (λ x. line_from b (Ok x)) (sym p.2) ∙ el) in act_taken b kept before h (put p.0 x.0) x.3
-    act_read (inr p) = act_taken b kept before h (hold p.0 p.1.lo p.1.hi) (sym el ∙ ap (λ x. line_from b (Ok x)) p.2)
+    pub act_read : ((r : ℕ) × (form : Bor (List ℕ)) × (l ≡ Put r form)) ⊎ ((r : ℕ) × (range : Interval) × (l ≡ Hold r range)) → Reads (Ok tt) (record { other = true; taken = kept.taken }) (read_one before b)
+    act_read (inl p) = let x = put_reads b p.0 p.1.now (ap (λ x. line_from (Ok x)) (sym p.2) ∙ el) in act_taken b kept before h (put p.0 x.0) x.3
+    act_read (inr p) = act_taken b kept before h (hold p.0 p.1.lo p.1.hi) (sym el ∙ ap (λ x. line_from (Ok x)) p.2)
 
 -- ---- all of them
 

@@ -77,6 +77,7 @@ fn shaped(text: &[u8]) -> bool
 }
 
 // Where a line starts in its text, and its length in bytes.
+// Kept: 0 and 0 for a line that is not there in place of an option, since this is the struct that C gets.
 #[repr(C)]
 #[derive(Clone, Copy, Default)]
 pub struct Part {
@@ -85,6 +86,7 @@ pub struct Part {
 }
 
 // Where what is behind the first k lines starts; the end of the text if there are fewer.
+// Kept: a walk of its own, since `Lines` stays before what no LF ends, and with fewer than k lines this goes past it.
 #[tactic(auto, using(crate::proofs::Feeds::start_first))]
 pub fn line_start(text: &[u8], k: usize) -> usize
     ensures { result ≡ length (cut text.now k) }
@@ -123,6 +125,7 @@ pub fn line(text: &[u8], n: usize) -> &[u8]
 }
 
 // What was seen of the lines so far: whether another kind than `in` came, and the registers with an `in`.
+// Kept: `other` tells of the lines, not of `taken`, which is read whether it holds or not.
 #[derive(Clone, Copy)]
 struct Seen {
     other: bool,
@@ -149,6 +152,7 @@ impl Seen {
 }
 
 // The lines in order: their count, or the first that is refused.
+// Kept: a count by hand, since it is answered too, and the numbers of an `enumerate` end with the loop.
 #[tactic(auto, using(crate::proofs::Judging::going_start))]
 fn judge_lines(text: &[u8]) -> Result<usize, Trouble>
     ensures { ending_of result ≡ judgement_for (read_lines 1 nothing_seen (lines text.now)) }
@@ -166,7 +170,7 @@ fn judge_lines(text: &[u8]) -> Result<usize, Trouble>
     Ok(count)
 }
 
-// Any bytes, of any length: 5 over the whole text first, then line by line 6, 7, LO past HI, 8.
+// Any bytes, of any length: the shape of the whole text first, then line by line the grammar, the literals, and where an `in` stands.
 pub fn judge_text(text: &[u8]) -> Result<usize, Trouble>
     ensures { Judges text.now result }
 {

@@ -1,3 +1,3 @@
 pub mod Answer
-pub mod Working
+pub mod Checked
 pub mod Demand3

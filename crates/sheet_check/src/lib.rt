@@ -1,11 +1,11 @@
 // The check of a sheet: one set a register, worked line by line. The lent sets are written on a pass only.
 #![tactic(auto)]
 
-ghost use Rattle.std.specs.Prelude.{ℕ};
-ghost use Rattle.meaning.specs.Check.{interval_limit, check_text};
+ghost use Rattle.std.specs.Prelude.{◌≡◌};
+ghost use Rattle.meaning.specs.Check.{interval_limit, check_text, work_left_by};
 ghost use Rattle.sheet.specs.Judging.{IsSheet};
 ghost use Rattle.sheet_check.specs.Answer.{Called};
-ghost use Rattle.sheet_check.specs.Working.{Checked};
+ghost use Rattle.sheet_check.specs.Checked.{Checked};
 
 use limits::{SETS, WORK};
 use refusals::{Cause, Trouble};
@@ -13,31 +13,44 @@ use set_lines::check_line;
 use set_values::Registers;
 use sheet::{Lines, judge_text};
 
-// The registers' sets after the last line of a sheet.
-fn check_lines(text: &[u8], work: &mut [i64; WORK]) -> Result<Registers, Trouble>
-    requires { (n : ℕ) × IsSheet text.now n }
+// A sheet that passes: how many lines it has, and the registers' sets after the last one.
+#[derive(Clone, Copy, Debug, PartialEq, Eq)]
+pub struct Passed {
+    pub count: usize,
+    pub registers: Registers,
+}
+
+// The lines of a sheet in order.
+// Kept: a walk of its own beside that of the run, since the two share a `for` and a `map_err`, and a trait of one step is longer than both.
+fn check_lines(text: &[u8], count: usize, work: &mut [i64; WORK]) -> Result<Passed, Trouble>
+    requires { IsSheet text.now count }
     ensures { Checked result (check_text interval_limit text.now) }
 {
     let mut registers = Registers::start();
     for (n, line) in Lines::of(text).enumerate() {
         check_line(line, &mut registers, work).map_err(|cause| Trouble::Stopped(cause, n + 1))?;
     }
-    Ok(registers)
+    Ok(Passed { count, registers })
 }
 
-// The check of any bytes: on a pass the sets after the last line are written to `sets`. What stops a line is a stop, 20 or 21; what reading meets, and a short slice, refuses.
+// The check of any bytes. What stops a line is a stop: a divisor that may be 0, or a hold that is broken; what reading meets refuses, and leaves the work slice as it was lent.
+pub fn check_text(text: &[u8], work: &mut [i64; WORK]) -> Result<Passed, Trouble>
+    ensures answer { Checked result (check_text interval_limit text.now) }
+    ensures left { work.new ≡ work_left_by work.old (check_text interval_limit text.now) }
+{
+    let count = judge_text(text)?;
+    let checked = check_lines(text, count, work);
+    work.fill(0);
+    checked
+}
+
+// The same on lent slices: on a pass the sets after the last line are written to `sets`. A short slice refuses first.
 pub fn check(text: &[u8], sets: &mut [i64], work: &mut [i64]) -> Result<usize, Trouble>
     ensures { Called text.now sets.old work.old result sets.new work.new }
 {
-    let Some(sets) = sets.first_chunk_mut::<SETS>() else {
-        return Err(Trouble::Refused(Cause::TooShort, 0));
-    };
-    let Some(work) = work.first_chunk_mut::<WORK>() else {
-        return Err(Trouble::Refused(Cause::TooShort, 0));
-    };
-    let count = judge_text(text)?;
-    let checked = check_lines(text, work);
-    work.fill(0);
-    checked?.show(sets);
-    Ok(count)
+    let sets = sets.first_chunk_mut::<SETS>().ok_or(Cause::TooShort)?;
+    let work = work.first_chunk_mut::<WORK>().ok_or(Cause::TooShort)?;
+    let passed = check_text(text, work)?;
+    passed.registers.show(sets);
+    Ok(passed.count)
 }

@@ -2,18 +2,20 @@
 // the numbers of the check's sets that are not 0 with their places, the listing, and the page.
 use limits::SETS;
 use refusals::Trouble;
-use replay::{ROOM, read_bytes, read_front, read_number};
+use replay::{ROOM, next_number, read_bytes, read_front};
 use std::io::Read;
 use stored::{pair, verdict_in};
 
 // What the sets hold when they are lent to the check.
 pub const OLD_SETS: i64 = -3333333;
 
-// More bytes than a stored text has, than a stored listing, and than a stored page.
+// More bytes than a stored text has.
 const TEXT_ROOM: usize = 65536;
 
+// More bytes than a stored listing has.
 pub const LISTING_ROOM: usize = 4096;
 
+// More bytes than a stored page has.
 pub const PAGE_ROOM: usize = 65536;
 
 // More numbers than are lent to a run.
@@ -21,6 +23,7 @@ pub const LENT_ROOM: usize = 64;
 
 // Lengths of the text, of the lent numbers, of the check's two slices, of the listing and of the page; how many numbers of the sets are stored; whether the
 // work is cleared; what reading, run, check and page answer; and a line number with the start and end of its bytes.
+// Kept: lengths and whether the work is cleared, no plainer as slices, since the file holds them apart from the parts, which `Sheet` has.
 #[derive(Clone, Copy)]
 pub struct Case {
     pub text: usize,
@@ -52,80 +55,77 @@ pub struct Sheet<'a> {
     pub page: &'a [u8],
 }
 
-// The next case of the file, if it has one more.
-fn read_case<F: Read>(file: &mut F) -> Option<Case> {
-    let mut b = [0u8; 36];
-    file.read_exact(&mut b).ok()?;
-    Some(Case {
-        text: pair(b[0], b[1]),
-        lent: usize::from(b[2]),
-        cleared: b[3] == 1,
-        judged: verdict_in(b[4], b[5], b[6], b[7]),
-        ran: verdict_in(b[8], b[9], b[10], b[11]),
-        checked: verdict_in(b[12], b[13], b[14], b[15]),
-        sets: pair(b[16], b[17]),
-        work: pair(b[18], b[19]),
-        stored: pair(b[20], b[21]),
-        listed: pair(b[22], b[23]),
-        line: pair(b[24], b[25]),
-        start: pair(b[26], b[27]),
-        end: pair(b[28], b[29]),
-        page: pair(b[30], b[31]),
-        paged: verdict_in(b[32], b[33], b[34], b[35]),
-    })
-}
-
-// One stored number of the sets, at its place.
-fn read_place<F: Read>(file: &mut F, sets: &mut [i64]) {
+// One stored number of the sets, put at its place; none if there is no such place or the file ends.
+fn read_place<F: Read>(file: &mut F, sets: &mut [i64]) -> Option<()> {
     let mut b = [0u8; 2];
-    let _ = file.read_exact(&mut b);
-    let value = read_number(file);
-    if let Some(x) = sets.get_mut(pair(b[0], b[1])) {
-        *x = value;
-    }
+    file.read_exact(&mut b).ok()?;
+    *sets.get_mut(pair(b[0], b[1]))? = next_number(file)?;
+    Some(())
 }
 
-// The sets as the check is to leave them: as lent, or after a pass those of the registers, of which those that are not 0 are stored.
-fn read_sets<F: Read>(file: &mut F, c: &Case, want: &mut [i64; ROOM]) {
-    if let Some(Ok(_)) = c.checked {
-        want[..SETS].fill(0);
-        for _ in 0..c.stored {
-            read_place(file, want);
+impl Case {
+    // The next case of the file, if it has one more.
+    pub fn read<F: Read>(file: &mut F) -> Option<Self> {
+        let mut b = [0u8; 36];
+        file.read_exact(&mut b).ok()?;
+        Some(Case {
+            text: pair(b[0], b[1]),
+            lent: usize::from(b[2]),
+            cleared: b[3] == 1,
+            judged: verdict_in(b[4], b[5], b[6], b[7]).answer(),
+            ran: verdict_in(b[8], b[9], b[10], b[11]).answer(),
+            checked: verdict_in(b[12], b[13], b[14], b[15]).answer(),
+            sets: pair(b[16], b[17]),
+            work: pair(b[18], b[19]),
+            stored: pair(b[20], b[21]),
+            listed: pair(b[22], b[23]),
+            line: pair(b[24], b[25]),
+            start: pair(b[26], b[27]),
+            end: pair(b[28], b[29]),
+            page: pair(b[30], b[31]),
+            paged: verdict_in(b[32], b[33], b[34], b[35]).answer(),
+        })
+    }
+
+    // The sets as the check is to leave them: as lent, or after a pass those of the registers, of which those that are not 0 are stored. None if the file ends.
+    fn read_sets<F: Read>(&self, file: &mut F) -> Option<[i64; ROOM]> {
+        let mut sets = [OLD_SETS; ROOM];
+        if let Some(Ok(_)) = self.checked {
+            sets[..SETS].fill(0);
+            for _ in 0..self.stored {
+                read_place(file, &mut sets)?;
+            }
         }
+        Some(sets)
     }
-}
 
-// Whether the sheet of a case passes the test; none if a part of it is too long or the file ends in it.
-fn passes<F: Read, T: Fn(&Sheet) -> bool>(file: &mut F, c: &Case, test: &T) -> Option<bool>
-    requires { T.IsAlwaysCallable test.now }
-{
-    let mut text = [0u8; TEXT_ROOM];
-    let mut lent = [0i64; LENT_ROOM];
-    let mut left = [0i64; LENT_ROOM];
-    let mut sets = [OLD_SETS; ROOM];
-    let mut listing = [0u8; LISTING_ROOM];
-    let mut page = [0u8; PAGE_ROOM];
-    let text = read_bytes(file, &mut text, c.text)?;
-    let lent = read_front(file, &mut lent, c.lent)?;
-    let left = read_front(file, &mut left, c.lent)?;
-    read_sets(file, c, &mut sets);
-    let listing = read_bytes(file, &mut listing, c.listed)?;
-    let page = read_bytes(file, &mut page, c.page)?;
-    Some(test(&Sheet {
-        case: c,
-        text,
-        lent,
-        left,
-        sets: &sets,
-        listing,
-        page,
-    }))
-}
-
-// Whether the next sheet of the file passes the test, if there is one more.
-pub fn next_passes<F: Read, T: Fn(&Sheet) -> bool>(file: &mut F, test: &T) -> Option<bool>
-    requires { T.IsAlwaysCallable test.now }
-{
-    let c = read_case(file)?;
-    Some(passes(file, &c, test).unwrap_or(false))
+    // Whether the sheet of a case passes the test; none if a part of it is too long, if the file ends in it, or if the test has no answer.
+    pub fn passes<F: Read, T: Fn(&Sheet) -> Option<bool>>(
+        &self,
+        file: &mut F,
+        test: &T,
+    ) -> Option<bool>
+        requires { T.IsAlwaysCallable test.now }
+    {
+        let mut text = [0u8; TEXT_ROOM];
+        let mut lent = [0i64; LENT_ROOM];
+        let mut left = [0i64; LENT_ROOM];
+        let mut listing = [0u8; LISTING_ROOM];
+        let mut page = [0u8; PAGE_ROOM];
+        let text = read_bytes(file, &mut text, self.text)?;
+        let lent = read_front(file, &mut lent, self.lent)?;
+        let left = read_front(file, &mut left, self.lent)?;
+        let sets = self.read_sets(file)?;
+        let listing = read_bytes(file, &mut listing, self.listed)?;
+        let page = read_bytes(file, &mut page, self.page)?;
+        test(&Sheet {
+            case: self,
+            text,
+            lent,
+            left,
+            sets: &sets,
+            listing,
+            page,
+        })
+    }
 }

@@ -7,8 +7,8 @@ use sheet_check::check;
 // What the work holds when it is lent.
 const OLD_WORK: i64 = -4444444;
 
-// The check on slices as long as the case says answers as is expected, and leaves the sets and the work so; none if a slice of the case is too long.
-fn answers(s: &Sheet) -> Option<bool> {
+// Whether the check on slices as long as the case says answers as is expected, and leaves the sets and the work so; none if a slice of the case is too long.
+pub fn agrees(s: &Sheet) -> Option<bool> {
     let c = s.case;
     let mut sets = [OLD_SETS; ROOM];
     let mut work = [OLD_WORK; ROOM];
@@ -18,9 +18,4 @@ fn answers(s: &Sheet) -> Option<bool> {
     }
     let answer = check(s.text, sets.get_mut(..c.sets)?, work.get_mut(..c.work)?);
     Some(c.checked == Some(answer) && sets.as_slice() == s.sets && work == cleared)
-}
-
-// So it does.
-pub fn agrees(s: &Sheet) -> bool {
-    answers(s).unwrap_or(false)
 }

@@ -7,15 +7,21 @@ mod parts;
 mod reads;
 mod runs;
 
-use case::{Sheet, next_passes};
+use case::{Case, Sheet};
 use replay::replay_file;
 use std::rt::Files;
 
-// Replays all sheets through one call.
-fn replay<R: Files + Print + Eprint, T: Fn(&Sheet) -> bool>(rt: &R, name: &str, test: T)
+// Replays all sheets through one call: the test says whether it answers as is stored.
+fn replay<R: Files + Print + Eprint, T: Fn(&Sheet) -> Option<bool>>(rt: &R, name: &str, test: T)
     requires { T.IsAlwaysCallable test }
 {
-    replay_file(rt, "sheets", name, |file| next_passes(file, &test));
+    replay_file(
+        rt,
+        "sheets",
+        name,
+        Case::read,
+        |file, c| c.passes(file, &test),
+    );
 }
 
 // A line of report for each call.

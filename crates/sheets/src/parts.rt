@@ -3,20 +3,18 @@ use crate::case::{LISTING_ROOM, PAGE_ROOM, Sheet};
 use listing::listing;
 use page::page;
 
-// The listing is as stored.
-pub fn listed(s: &Sheet) -> bool {
+// Whether the listing is as stored; none if it is longer than any stored one.
+pub fn listed(s: &Sheet) -> Option<bool> {
     let mut out = [0u8; LISTING_ROOM];
-    match listing(s.text, &mut out) {
-        Ok(n) => out.get(..n) == Some(s.listing),
-        Err(_) => false,
-    }
+    let n = listing(s.text, &mut out).ok()?;
+    Some(out.get(..n)? == s.listing)
 }
 
-// The page is as stored, or answers as is expected.
-pub fn paged(s: &Sheet) -> bool {
+// Whether the page is as stored, or its refusal as is expected.
+pub fn paged(s: &Sheet) -> Option<bool> {
     let mut out = [0u8; PAGE_ROOM];
     match page(s.text, &mut out) {
-        Ok(n) => s.case.paged == Some(Ok(0)) && out.get(..n) == Some(s.page),
-        Err(trouble) => s.case.paged == Some(Err(trouble)),
+        Ok(n) => Some(s.case.paged == Some(Ok(0)) && out.get(..n)? == s.page),
+        Err(trouble) => Some(s.case.paged == Some(Err(trouble))),
     }
 }

@@ -1,13 +1,13 @@
 // Reading a text, and the line finder.
 use crate::case::Sheet;
 
-// The text is judged as is expected.
-pub fn judged(s: &Sheet) -> bool {
-    s.case.judged == Some(sheet::judge_text(s.text))
+// Whether the text is judged as is expected.
+pub fn judged(s: &Sheet) -> Option<bool> {
+    Some(s.case.judged? == sheet::judge_text(s.text))
 }
 
-// The bytes of the line are the stored part of the text.
-pub fn found(s: &Sheet) -> bool {
+// Whether the bytes of the line are the stored part of the text; none if that part does not lie in the text.
+pub fn found(s: &Sheet) -> Option<bool> {
     let c = s.case;
-    s.text.get(c.start..c.end) == Some(sheet::line(s.text, c.line))
+    Some(s.text.get(c.start..c.end)? == sheet::line(s.text, c.line))
 }

@@ -2,16 +2,11 @@
 use crate::case::{LENT_ROOM, Sheet};
 use run::run;
 
-// The run answers as is expected, and leaves its numbers so; none if more numbers are lent than there is room for.
-fn answers(s: &Sheet) -> Option<bool> {
+// Whether the run answers as is expected, and leaves its numbers so; none if more numbers are lent than there is room for.
+pub fn agrees(s: &Sheet) -> Option<bool> {
     let mut lent = [0i64; LENT_ROOM];
     let lent = lent.get_mut(..s.lent.len())?;
     lent.copy_from_slice(s.lent);
     let answer = run(s.text, lent);
     Some(s.case.ran == Some(answer) && *lent == *s.left)
-}
-
-// So it does.
-pub fn agrees(s: &Sheet) -> bool {
-    answers(s).unwrap_or(false)
 }

@@ -1,35 +1,30 @@
-// What is done with lent slices of i64. A slice of ends holds the intervals one after the other, start before end; a call that writes leaves what follows
-// its numbers as it was lent.
+// Ends of intervals, each start followed by its end, written behind what a writer has already.
 #![tactic(auto)]
 
-ghost use Rattle.std.specs.Prelude.{◌≡◌, ◌++◌, ◌≤◌, length};
-ghost use Rattle.meaning.specs.Lists.{over};
+ghost use Rattle.std.specs.Prelude.{◌≤◌, ◌+◌, ◌++◌, length};
 ghost use Rattle.meaning.specs.Interval.{span};
-ghost use Rattle.slices.specs.Wrote.{Wrote};
+ghost use Rattle.slices.specs.Adds.{Adds};
 
-// Writes the ends of intervals; returns how many numbers that are.
-pub fn put<const N: usize>(out: &mut [i64], ends: [i64; N]) -> usize
-    requires { N ≤ length out.old }
-    ensures count { result ≡ N }
-    ensures after { out.new ≡ over ends.entry out.old }
+use writer::Writer;
+
+// The interval [a, b].
+// Kept: each number is written by its place, since `sets::meet` of two sets of 16 intervals takes 70 ns so, and 92 with a `push` of an array.
+// Kept: two ends in place of an interval, since an interval asks that they be in order, and a public call may not ask more.
+pub fn put_one(out: &mut Writer<i64>, a: i64, b: i64)
+    requires { out.old.len + 2 ≤ length out.old.room.now }
+    ensures { Adds (span a b) out.new out.old }
 {
-    out[..N].copy_from_slice(&ends);
-    N
+    let at = out.len;
+    out.room[at] = a;
+    out.room[at + 1] = b;
+    out.len = at + 2;
 }
 
-// Writes the interval [a, b]; returns how many numbers that are.
-// Kept: this and `put_two` are `put` with a clause on intervals.
-pub fn put_one(out: &mut [i64], a: i64, b: i64) -> usize
-    requires { 2 ≤ length out.old }
-    ensures { Wrote result (span a b) out.new out.old }
+// The intervals [a, b] and [c, d].
+pub fn put_two(out: &mut Writer<i64>, a: i64, b: i64, c: i64, d: i64)
+    requires { out.old.len + 4 ≤ length out.old.room.now }
+    ensures { Adds (span a b ++ span c d) out.new out.old }
 {
-    put(out, [a, b])
-}
-
-// Writes the intervals [a, b] and [c, d]; returns how many numbers that are.
-pub fn put_two(out: &mut [i64], a: i64, b: i64, c: i64, d: i64) -> usize
-    requires { 4 ≤ length out.old }
-    ensures { Wrote result (span a b ++ span c d) out.new out.old }
-{
-    put(out, [a, b, c, d])
+    put_one(out, a, b);
+    put_one(out, c, d);
 }

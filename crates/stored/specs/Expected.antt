@@ -10,6 +10,15 @@ abbrev pub Expected : {A : Type 0} → (A → A → Bool) → Result A Cause →
 Expected eq (Ok v) number value = (number ≡ 0) × (eq v value ≡ true)
 Expected eq (Err cause) number value = number ≡ number_of cause
 
+-- the answer is stored by that number and value
+abbrev pub RepliedBy : {A : Type 0} → ℕ → A → Result A Cause → Type 0
+RepliedBy number value (Ok v) = (number ≡ 0) × (v ≡ value)
+RepliedBy number value (Err cause) = number ≡ number_of cause
+
+-- the answer of a set call that is stored so, or none where none is
+abbrev pub Replies : {A : Type 0} → ℕ → A → Option (Result A Cause) → Type 0
+Replies {A} number value r = MatchOption r ((answer : Result A Cause) → RepliedBy number value answer → ⊥) (RepliedBy number value)
+
 -- the answer is stored by that kind, number and line
 abbrev pub StoredBy : ℕ → ℕ → ℕ → Result ℕ Trouble → Type 0
 StoredBy kind number line (Ok n) = (kind ≡ 0) × (number ≡ 0) × (line ≡ n)

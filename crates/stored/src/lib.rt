@@ -4,7 +4,7 @@
 
 ghost use Rattle.std.specs.Prelude.{◌≡◌, ◌+◌, ◌*◌, ◌↔◌, IsTrue, pos};
 ghost use Rattle.meaning.specs.Number.{wrap};
-ghost use Rattle.stored.specs.Expected.{Expected, Reads};
+ghost use Rattle.stored.specs.Expected.{Expected, Reads, Replies};
 ghost use Rattle.stored.specs.Stored.{bits_at};
 
 use refusals::{Cause, Trouble};
@@ -23,24 +23,56 @@ pub fn number_in(b: &[u8; 8]) -> i64
     words::of_bits(u64::from_le_bytes(*b))
 }
 
-// What a call on a sheet is to answer, by its kind, 0 a success, 1 a finding or a stop, 2 a refusal; its number, 0 of a success; and its line, or the line count of a success, in two bytes.
-// None where no answer is stored so.
-pub fn verdict_in(kind: u8, number: u8, low: u8, high: u8) -> Option<Result<usize, Trouble>>
-    ensures { Reads kind number (low + 256 * high) result }
+// What a call on a sheet is to answer, as it is stored: its kind, 0 a success, 1 a finding or a stop, 2 a refusal; its number, 0 of a success; and its line, or the
+// line count of a success.
+// Kept: numbers for the kind and the cause, no plainer as enums, since a file holds any three; `answer` reads them.
+#[derive(Clone, Copy, Debug, PartialEq, Eq)]
+pub struct Verdict {
+    pub kind: u8,
+    pub number: u8,
+    pub line: usize,
+}
+
+// A verdict as it is stored, its line in two bytes.
+pub fn verdict_in(kind: u8, number: u8, low: u8, high: u8) -> Verdict
+    ensures { (result.kind ≡ kind) × (result.number ≡ number) × (result.line ≡ low + 256 * high) }
 {
-    let line = pair(low, high);
-    if kind == 0 && number == 0 {
-        return Some(Ok(line));
-    }
-    let cause = Cause::try_from(number).ok()?;
-    match kind {
-        1 => Some(Err(Trouble::Stopped(cause, line))),
-        2 => Some(Err(Trouble::Refused(cause, line))),
-        _ => None,
+    Verdict {
+        kind,
+        number,
+        line: pair(low, high),
     }
 }
 
+impl Verdict {
+    // The answer that is stored so; none where no answer is.
+    pub fn answer(self) -> Option<Result<usize, Trouble>>
+        ensures { Reads self.kind self.number self.line result }
+    {
+        if self.kind == 0 && self.number == 0 {
+            return Some(Ok(self.line));
+        }
+        let cause = Cause::try_from(self.number).ok()?;
+        match self.kind {
+            1 => Some(Err(Trouble::Stopped(cause, self.line))),
+            2 => Some(Err(Trouble::Refused(cause, self.line))),
+            _ => None,
+        }
+    }
+}
+
+// What a set call is to answer, as it is stored: 0 and a value, or the number of a refusal; none where no answer is.
+pub fn reply_in<T: Copy>(number: u8, value: T) -> Option<Result<T, Cause>>
+    ensures { Replies number value result }
+{
+    if number == 0 {
+        return Some(Ok(value));
+    }
+    Some(Err(Cause::try_from(number).ok()?))
+}
+
 // Whether the answer of a set call is the one expected: a refusal by its number, success by its value.
+// Kept: beside `reply_in`, for a caller who has the number and the value and no answer made of them.
 pub fn as_expected<T: PartialEq + Copy>(answer: Result<T, Cause>, number: u8, value: T) -> bool
     ensures { IsTrue result ↔ Expected T.eq answer number value }
 {

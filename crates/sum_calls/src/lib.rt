@@ -1,5 +1,7 @@
-// The set calls whose answer holds just the point results and keeps the left set's flag: neg, abs, add and sub. A set is the ends of its intervals in a slice, its flag beside it;
-// `number_intervals` says which slices are sets. Special is MIN, which is its own negative and magnitude, and a sum past the end of the range, which goes on at the other end.
+// The set calls whose answer holds just the point results and keeps the left set's flag: neg, abs, add and sub. A set is the ends of its
+// intervals in a slice, its flag beside it; `number_intervals` says which slices are sets. Special is MIN, which is its own negative and
+// magnitude, and a sum past the end of the range, which goes on at the other end. neg and abs hand on the right set 0, which their rules do not read.
+// Kept: a function for each operation, since C, Rust and Python call each by a name of its own; what they share is `joined`.
 #![tactic(auto)]
 
 ghost use Rattle.meaning.specs.Number as point;

@@ -1,9 +1,9 @@
 -- The ends of a call that writes text: short, written, stop and refusal. Assumes nothing.
 use lib.Dec.{ltb}
-use lib.ListN.{length}
+use lib.ListN.{length, take, drop}
 use mathlib.Core.Path.{◌≡◌, refl, sym, ap, subst, ◌∙◌}
 use mathlib.Core.Bool.{Bool, true, false, cond}
-use mathlib.Core.List.{List}
+use mathlib.Core.List.{List, ◌++◌}
 use Prim.Native.Nat.{ℕ, ◌≤◌, ◌<◌}
 use native.Mathlib.Omega.{arith}
 use borrow.Author.Tests.{lt-ltb, le-ltb, ltb-false}
@@ -18,7 +18,10 @@ use Rattle.refusals.specs.Numbers.{number_of}
 use Rattle.refusals.specs.Endings.{Ending, ending_of}
 use Rattle.refusals.specs.Endings as ending
 use Rattle.laws.proofs.Integers.{if_yes, if_no}
-use Rattle.decimal.specs.Written.{Written}
+use Rattle.std.specs.Borrow.{MutBor}
+use Rattle.meaning.specs.Lists.{over}
+use Rattle.writer.specs.declared.Writer.{Writer}
+use Rattle.writer.specs.Written.{Starts, Appends}
 use Rattle.texts.specs.Answers.{answer_for, Writes}
 
 pub writes_short : (x out : List ℕ) → length out < length x → Writes (text x) out (Err (Refused NoRoom 0)) out
@@ -27,15 +30,21 @@ writes_short x out h =
     let t = lt-ltb (length out) (length x) h in
     record { returns = if_yes _ _ t; answer_is = if_yes _ _ t; leaves = if_yes _ _ t }
 
-pub writes_all : (x : List ℕ) {out new : List ℕ} {n : ℕ} → Written n x new out → Writes (text x) out (Ok n) new
+-- the text stands at the front, and its bytes are counted
+pub writes_all : (x : List ℕ) {out new : List ℕ} {n : ℕ} → n ≡ length x → new ≡ over x out → n ≤ length out → Writes (text x) out (Ok n) new
 unfolding text_returns text_leaves answer_for
-writes_all x {out} {new} {n} w =
-    let t = le-ltb (length out) (length x) (omega (arith, w.count, w.room)) in
+writes_all x {out} count left room =
+    let t = le-ltb (length out) (length x) (omega arith) in
     record {
-      returns = ap (λ (k : ℕ). record { number = 0; line = 0; count = k }) w.count ∙ if_no _ _ t;
-      answer_is = ap ending.success w.count ∙ if_no _ _ t;
-      leaves = w.left ∙ if_no _ _ t;
+      returns = ap (λ (k : ℕ). record { number = 0; line = 0; count = k }) count ∙ if_no _ _ t;
+      answer_is = ap ending.success count ∙ if_no _ _ t;
+      leaves = left ∙ if_no _ _ t;
     }
+
+-- the same of what a writer holds after its first call
+pub writes_first : {w v : Writer ℕ} {lent : MutBor (List ℕ)} {x : List ℕ} → Starts w lent → Appends x v w → Writes (text x) lent.now (Ok v.len) v.room.now
+writes_first {w} {x = x} s a =
+    writes_all x (omega (arith, s.empty, a.count)) (a.left ∙ (λ i. take (s.empty i) (s.now i) ++ over x (drop (s.empty i) (s.now i)))) (omega (arith, s.empty, a.count, a.room, ap length s.now))
 
 pub writes_stop : (k : Cause) (l : ℕ) (out : List ℕ) → Writes (finding (number_of k) l) out (Err (Stopped k l)) out
 unfolding text_returns text_leaves answer_for

@@ -8,6 +8,7 @@ ghost use Rattle.meaning.specs.Number as point;
 use words::ONE;
 
 // Nonzero is true.
+// Kept: this and `of_bool` are definitions of `meaning` by name, which the calls below are made of; a conversion of the library says neither.
 pub fn as_bool(x: i64) -> bool
     ensures { result ≡ point.truth x }
 {
@@ -43,6 +44,7 @@ pub fn or(x: i64, y: i64) -> i64
 }
 
 // ONE where x is at most y, else 0.
+// Kept: this, `lt` and `ne` are three functions since C calls each by its name.
 pub fn le(x: i64, y: i64) -> i64
     ensures { result ≡ point.of_bool (le_z x y) }
 {

@@ -1,5 +1,5 @@
-// Replays stored answers of the original Rust, and of a second reading where it has none, and writes a line for each operation: how many cases, and whether all
-// agree. The cases are files of data/, whose README says how they were made.
+// Replays stored answers, and writes a line for each operation: how many cases, and whether all agree. The answers are those of the original Rust, and where it has
+// none those of a second reading of its definitions. The cases are files of data/, whose README says how they were made.
 #![tactic(auto)]
 
 mod case;
@@ -7,6 +7,7 @@ mod closest;
 mod points;
 mod set_cases;
 
+use case::Case;
 use replay::replay_file;
 use std::rt::Files;
 
@@ -18,74 +19,56 @@ fn replay_sets<R: Files + Print + Eprint>(rt: &R) {
     set_cases::replay(rt, "abs", |left, flag, _, work, out| {
         number_intervals::abs(left, flag, work, out)
     });
-    set_cases::replay(
-        rt,
-        "not",
-        |left, _, _, _, out| number_intervals::not(left, out),
-    );
+    set_cases::replay_plain(rt, "not", |left, _, out| number_intervals::not(left, out));
     set_cases::replay(rt, "add", number_intervals::add);
     set_cases::replay(rt, "sub", number_intervals::sub);
     set_cases::replay(rt, "mul", number_intervals::mul);
     set_cases::replay(rt, "div", number_intervals::div);
     set_cases::replay(rt, "rem", number_intervals::rem);
-    set_cases::replay(
-        rt,
-        "and",
-        |left, _, right, _, out| number_intervals::and(left, right, out),
-    );
-    set_cases::replay(
-        rt,
-        "or",
-        |left, _, right, _, out| number_intervals::or(left, right, out),
-    );
-    set_cases::replay(
-        rt,
-        "le",
-        |left, _, right, _, out| number_intervals::int_le(left, right, out),
-    );
-    set_cases::replay(
-        rt,
-        "lt",
-        |left, _, right, _, out| number_intervals::int_lt(left, right, out),
-    );
-    set_cases::replay(
-        rt,
-        "ne",
-        |left, _, right, _, out| number_intervals::int_ne(left, right, out),
-    );
-    set_cases::replay(
-        rt,
-        "union",
-        |left, _, right, _, out| number_intervals::union(left, right, out),
-    );
-    set_cases::replay(rt, "intersect", |left, _, right, _, out| {
-        number_intervals::intersect(left, right, out)
-    });
+    set_cases::replay_plain(rt, "and", number_intervals::and);
+    set_cases::replay_plain(rt, "or", number_intervals::or);
+    set_cases::replay_plain(rt, "le", number_intervals::int_le);
+    set_cases::replay_plain(rt, "lt", number_intervals::int_lt);
+    set_cases::replay_plain(rt, "ne", number_intervals::int_ne);
+    set_cases::replay_plain(rt, "union", number_intervals::union);
+    set_cases::replay_plain(rt, "intersect", number_intervals::intersect);
 }
 
 // The point operations, a file each.
 fn replay_points<R: Files + Print + Eprint>(rt: &R) {
-    points::replay(rt, "point_neg", |x, _| Some(number::neg(x)));
-    points::replay(rt, "point_abs", |x, _| Some(number::abs(x)));
-    points::replay(rt, "point_not", |x, _| Some(number::not(x)));
-    points::replay(rt, "point_add", |x, y| Some(number::add(x, y)));
-    points::replay(rt, "point_sub", |x, y| Some(number::sub(x, y)));
-    points::replay(rt, "point_mul", |x, y| Some(number::mul(x, y)));
+    points::replay_plain(rt, "point_neg", |x, _| number::neg(x));
+    points::replay_plain(rt, "point_abs", |x, _| number::abs(x));
+    points::replay_plain(rt, "point_not", |x, _| number::not(x));
+    points::replay_plain(rt, "point_add", number::add);
+    points::replay_plain(rt, "point_sub", number::sub);
+    points::replay_plain(rt, "point_mul", number::mul);
     points::replay(rt, "point_div", number::div);
     points::replay(rt, "point_rem", number::rem);
-    points::replay(rt, "point_and", |x, y| Some(number::and(x, y)));
-    points::replay(rt, "point_or", |x, y| Some(number::or(x, y)));
-    points::replay(rt, "point_le", |x, y| Some(number::le(x, y)));
-    points::replay(rt, "point_lt", |x, y| Some(number::lt(x, y)));
-    points::replay(rt, "point_ne", |x, y| Some(number::ne(x, y)));
+    points::replay_plain(rt, "point_and", number::and);
+    points::replay_plain(rt, "point_or", number::or);
+    points::replay_plain(rt, "point_le", number::le);
+    points::replay_plain(rt, "point_lt", number::lt);
+    points::replay_plain(rt, "point_ne", number::ne);
     points::replay(rt, "point_next", |x, _| number::next(x));
     points::replay(rt, "point_prev", |x, _| number::prev(x));
 }
 
 // The calls for the closest setpoint, a file each.
 fn replay_closest<R: Files + Print + Eprint>(rt: &R) {
-    replay_file(rt, "nearest", "nearest", |file| closest::next_nearest(file));
-    replay_file(rt, "within", "within", |file| closest::next_within(file));
+    replay_file(
+        rt,
+        "nearest",
+        "nearest",
+        Case::read,
+        |file, c| c.nearest_agrees(file),
+    );
+    replay_file(
+        rt,
+        "within",
+        "within",
+        Case::read,
+        |file, c| c.within_agrees(file),
+    );
 }
 
 // A line of report for each operation.

@@ -3,21 +3,13 @@ use mathlib.Core.Path.{◌≡◌, ap, sym, ◌∙◌}
 use Rattle.std.proofs.Common.{ltb}
 use Rattle.std.proofs.lemmas.Bool.{ltb-true}
 use Rattle.laws.proofs.Integers.{never, by_test}
-use Prim.Native.Nat.{ℕ, suc, ◌+◌, ◌*◌, ◌/◌, ◌%◌, ◌^◌, ◌≤◌}
+use Prim.Native.Nat.{ℕ, suc, ◌+◌, ◌*◌, ◌/◌, ◌%◌}
 use native.Mathlib.Nat.{div-add-mod'}
 use native.Mathlib.Omega.{arith}
 use mathlib.Core.Bool.{true, false, beq}
 use lib.IntN.{ℤ, pos, negsuc, nat_abs, ◌*ℤ◌}
 use lib.Signed.{lt_z}
-use Rattle.words.proofs.Halves.{mul_mono}
 use Rattle.wide.proofs.Words.{Is, is_mul}
-
--- the upper word of a product of two magnitudes
-pub high_small : (a b h l : ℕ) → a ≤ 2 ^ 63 → b ≤ 2 ^ 63 → h * 2 ^ 64 + l ≡ a * b → h ≤ 2 ^ 62
-high_small a b h l ha hb e = small (omega (arith, e, mul_mono (2 ^ 63) (2 ^ 63) ha hb))
-  where
-    small : h * 2 ^ 64 ≤ 2 ^ 126 → h ≤ 2 ^ 62
-    small k = omega arith
 
 -- with any M for 2^64 and any H for 2^63, so that `omega` sees no large number
 pub is_above : (M H : ℕ) {z : ℤ} (h l : ℕ) {n p q : ℕ} → Is z n 0 → h * M + l ≡ n

@@ -9,6 +9,7 @@ use crate::word::unword;
 use words::SIGN;
 
 // One or two intervals of i64: [MIN,MAX]; [u,v]; [u,MAX] and [MIN,v].
+// Kept: three shapes of a range, none of them an absent one; the two ends of `Two` are those of two intervals, so no Interval holds them.
 #[derive(Clone, Copy, Debug, PartialEq, Eq)]
 pub enum Range {
     Whole,

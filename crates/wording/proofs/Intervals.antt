@@ -9,7 +9,7 @@ use Rattle.meaning.specs.Bytes.{bytes}
 use Rattle.meaning.specs.NumberIntervals.{intervals}
 use Rattle.meaning.specs.Listing.{decimal_z, interval_texts}
 use Rattle.wording.specs.Texts.{interval_text}
-use Rattle.decimal.proofs.Pairs.{IsEach}
+use Rattle.writer.proofs.Pairs.{IsEach}
 
 abbrev pub listed : List ℤ → List ℕ
 listed l = interval_texts (intervals l)

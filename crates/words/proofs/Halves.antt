@@ -1,25 +1,9 @@
 -- Two words by their halves, below 2^32 each, and long multiplication by them. `omega` stops at numbers of more than 38 digits, so no statement here has
 -- 2^64 times a word beside a bound on it. Assumes nothing.
-use Rattle.std.proofs.Common.{◌≡◌, ℕ, ◌+◌, ◌*◌, ◌/◌, ◌%◌, ◌^◌, ◌<◌, ◌≤◌, ◌∙◌, ap₂, le_trans, mul-le-mul_right, mul-le-mul_left, arith}
+use Rattle.std.proofs.Common.{◌≡◌, ℕ, ◌+◌, ◌*◌, ◌/◌, ◌%◌, ◌^◌, ◌≤◌, ◌∙◌, ap₂, le_trans, mul-le-mul_right, mul-le-mul_left, arith}
 
 pub mul_mono : {x y : ℕ} (m n : ℕ) → x ≤ m → y ≤ n → x * y ≤ m * n
 mul_mono {x} {y} m n h k = le_trans (mul-le-mul_left x k) (mul-le-mul_right n h)
-
--- the products of halves leave room for a carry
-pub record Halves (a b : ℕ) : Type 0 where
-  pub low : a % 2 ^ 32 * (b % 2 ^ 32) ≤ 4294967295 * 4294967295
-  pub mid : a / 2 ^ 32 * (b % 2 ^ 32) ≤ 4294967295 * 4294967295
-  pub next : a % 2 ^ 32 * (b / 2 ^ 32) ≤ 4294967295 * 4294967295
-  pub high : a / 2 ^ 32 * (b / 2 ^ 32) ≤ 4294967295 * 4294967295
-
-pub halves : (a b : ℕ) → a < 2 ^ 64 → b < 2 ^ 64 → Halves a b
-halves a b h k =
-    record {
-      low = mul_mono 4294967295 4294967295 (omega arith) (omega arith);
-      mid = mul_mono 4294967295 4294967295 (omega arith) (omega arith);
-      next = mul_mono 4294967295 4294967295 (omega arith) (omega arith);
-      high = mul_mono 4294967295 4294967295 (omega arith) (omega arith);
-    }
 
 foil : (p q r s : ℕ) → (p * 2 ^ 32 + q) * (r * 2 ^ 32 + s) ≡ p * r * 2 ^ 64 + (p * s + q * r) * 2 ^ 32 + q * s
 foil p q r s = omega arith

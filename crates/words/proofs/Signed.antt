@@ -1,5 +1,5 @@
 -- A word of 64 bits is read as its wrapped value, so a negative or a quotient that is kept in a word is wrapped. Assumes nothing.
-use Rattle.std.proofs.Common.{◌≡◌, ℕ, suc, ◌-◌, ◌*◌, ◌/◌, ◌%◌, ◌^◌, ◌<◌, ◌≤◌, ℤ, pos, negsuc, neg_ℤ, ◌*ℤ◌, sym, ap, ◌∙◌, to_z, of_z, w64, SFits, ltb, arith}
+use Rattle.std.proofs.Common.{◌≡◌, ℕ, suc, ◌-◌, ◌/◌, ◌%◌, ◌^◌, ◌<◌, ◌≤◌, ℤ, pos, negsuc, neg_ℤ, sym, ap, ◌∙◌, to_z, of_z, w64, SFits, ltb, arith}
 use native.Mathlib.Nat.{div-le_self}
 use Rattle.std.proofs.lemmas.Bool.{ltb-true, ltb-false}
 use mir.Val.{sel}
@@ -7,7 +7,7 @@ use lib.Signed.{quot_z}
 use Rattle.meaning.specs.Number.{wrap, negative}
 use Rattle.laws.proofs.Integers.{by_test, up, down, up_neg, down_neg, up_quot, down_quot, up_quot_neg, down_quot_neg}
 use Rattle.laws.proofs.Machine.{num, fits_out}
-use Rattle.laws.proofs.Wrapping.{wrap_is, wrap_id, wrap_cong, wrap_mul, low_bits}
+use Rattle.laws.proofs.Wrapping.{wrap_is, wrap_id, wrap_cong}
 
 pub signed_is : (n : ℕ) → n < 2 ^ 64 → to_z w64 n ≡ wrap (pos n)
 signed_is n h =

@@ -10,14 +10,14 @@ pub const MIN: i64 = i64::MIN;
 
 pub const MAX: i64 = i64::MAX;
 
-// The number after MIN, the least that has a positive counterpart.
-pub const MINUS_MAX: i64 = -MAX;
-
 // One unit, in thousandths.
 pub const ONE: i64 = 1000;
 
 // 2^63, the bits of MIN, and its magnitude.
 pub const SIGN: u64 = 9223372036854775808;
+
+// 2^32, how many half words there are.
+const HALVES: u64 = 4294967296;
 
 // The two's complement bits of x.
 // Kept: this and the calls below say what std's methods give in the words of `meaning`, once for all callers.
@@ -47,15 +47,15 @@ pub fn distance(s: i64, e: i64) -> u64
 pub fn wrapping_mul_u64(a: u64, b: u64) -> u64
     ensures { result ≡ a * b % 2 ^ 64 }
 {
-    let a0 = a % 4294967296;
-    let a1 = a / 4294967296;
-    let b0 = b % 4294967296;
-    let b1 = b / 4294967296;
+    let a0 = a % HALVES;
+    let a1 = a / HALVES;
+    let b0 = b % HALVES;
+    let b1 = b / HALVES;
     let upper = a1 * b0;
     let other = a0 * b1;
     let lower = a0 * b0;
     let mixed = upper.wrapping_add(other);
-    lower.wrapping_add(mixed % 4294967296 * 4294967296)
+    lower.wrapping_add(mixed % HALVES * HALVES)
 }
 
 // The product of x and y as integers, wrapped.

@@ -7,5 +7,5 @@ use Rattle.closing.proofs.close.Given as goal
 abbrev pub invariant-loop-s : goal.invariant-loop-s
 invariant-loop-s l =
     (length l.front ≡ l.m)
-    × Fronts (closed_ends l.limit l.n l.fn.work) l.n l.fn.work l.front (l.m + 2 * l.s-index)
+    × Fronts (closed_ends l.limit l.fn.ends) l.fn.ends l.front (l.m + 2 * l.s-index)
     × Known (gaps_of l.front) l.gap

@@ -11,19 +11,9 @@ use Rattle.meaning.specs.Number.{distance}
 use Rattle.meaning.specs.Close.{missing}
 use Rattle.closing.proofs.missing.Goals as goal
 
-pub distance-requires : goal.distance-requires
-distance-requires c = rw (to_z-of_z c.ranges.e, to_z-of_z c.ranges.s) (omega (zarith, c.requires, suc_parts c.args.e))
-
 -- the distance, of the numbers themselves
 is : (s e : ℤ) (r : ℕ) → SFits w64 s → SFits w64 e → pos r ≡ to_z w64 (of_z w64 s) -ℤ to_z w64 (of_z w64 e) → pos r ≡ s -ℤ e
 is s e r f g h = h ∙ λ i. to_z-of_z f i -ℤ to_z-of_z g i
-
-some : (e s : ℤ) (r : ℕ) → suc_ℤ e <ℤ s → pos r ≡ s -ℤ e → 1 ≤ r
-some e s r h d = omega (zarith, suc_parts e, sub_parts s e)
-
-pub overflow_sub-result : goal.overflow_sub-result
-overflow_sub-result c =
-    some c.args.e c.args.s c.distance.result c.requires (is c.args.s c.args.e c.distance.result c.ranges.s c.ranges.e c.distance.ensures)
 
 pub returns : goal.returns
 unfolding missing distance

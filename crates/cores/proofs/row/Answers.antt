@@ -1,38 +1,43 @@
--- Each turn hands the free tail to the pair rule, with the next interval of the right set. Assumes nothing.
-use Rattle.std.proofs.Common.{◌≡◌, refl, ◌+◌, ◌*◌, ◌≤◌, length, rules, arith}
+-- Each turn writes the results of one pair more. Assumes nothing.
+use Rattle.std.proofs.Common.{rules, arith}
 use Rattle.laws.proofs.Machine.{back}
-use Rattle.sorting.proofs.Steps.{end_at}
+use Rattle.laws.proofs.Members.{normal_proper}
 use Rattle.interval.proofs.Cuts.{proper}
-use Rattle.cores.specs.Operation.{factor_of}
+use Rattle.slices.proofs.Tail.{tail_long, tail_added}
+use Rattle.writer.proofs.Pairs.{first, second}
 use Rattle.cores.proofs.Operations.{pair_few}
-use Rattle.cores.proofs.Fill.{fill_start, next_proper, next_room, next_at, fill_turn, fill_done}
+use Rattle.cores.proofs.Fill.{fill_start, next_proper, next_room, fill_next, fill_done}
 use Rattle.cores.proofs.row.Goals as goal
 
-pub loop-j-init : goal.loop-j-init
-loop-j-init c = (refl, fill_start _ (2 * factor_of c.args.op) _ _ c.requires.0 c.requires.1)
-
-pub slice_bounds-pair-start : goal.slice_bounds-pair-start
-slice_bounds-pair-start c = omega (arith, c.loop-j.invariant.1.free, c.loop-j.invariant.1.long)
+pub loop-lo-init : goal.loop-lo-init
+loop-lo-init c = fill_start _ _ _ _ (normal_proper _ c.args.right.set.is) c.requires
 
 pub invariant_of-pair : goal.invariant_of-pair
 invariant_of-pair c =
-    let h : 2 * c.loop-j.j + 2 ≤ length c.args.right.now = omega (arith, c.loop-j-test.true, c.loop-j.invariant.0) in
-    let x = next_proper c.loop-j.invariant.1 h in
-    record { ordered = rw (back (end_at c.args.right.now (2 * c.loop-j.j)) (omega arith), back (end_at c.args.right.now (2 * c.loop-j.j + 1)) (omega arith)) x.ordered }
+    let k = c.loop-lo.lo-index in
+    let e = c.as_chunks.ensures in
+    let x = c.as_chunks.result.0.now in
+    let p = next_proper c.loop-lo.invariant e.front e.front_len c.loop-lo-test.true (back (first x k) c.lo-1.given) (back (second x k) c.hi-1.given) in
+    record { ordered = p.ordered }
 
-pub pair-r-requires : goal.pair-r-requires
-pair-r-requires c = next_room c.loop-j.invariant.1 (omega (arith, c.loop-j-test.true, c.loop-j.invariant.0))
+pub pair-count-requires : goal.pair-count-requires
+pair-count-requires c =
+    let k = c.loop-lo.lo-index in
+    let e = c.as_chunks.ensures in
+    let x = c.as_chunks.result.0.now in
+    let room = next_room c.loop-lo.invariant e.front e.front_len c.loop-lo-test.true (back (first x k) c.lo-1.given) (back (second x k) c.hi-1.given) in
+    omega (arith, room, tail_long c.loop-lo.out (omega (arith, room)))
 
-pub overflow_add-at : goal.overflow_add-at
-overflow_add-at c =
-    omega (arith, next_at c.loop-j.invariant.1 (omega (arith, c.loop-j-test.true, c.loop-j.invariant.0)) c.pair-r.ensures, c.well_formed)
-
-pub loop-j-preserved : goal.loop-j-preserved
-loop-j-preserved c =
-    let h : 2 * c.loop-j.j + 2 ≤ length c.args.right.now = omega (arith, c.loop-j-test.true, c.loop-j.invariant.0) in
-    let e : 2 * c.loop-j.j + 2 ≡ 2 * (c.loop-j.j + 1) = omega arith in
-    let w = rw (back (end_at c.args.right.now (2 * c.loop-j.j)) (omega arith), back (end_at c.args.right.now (2 * c.loop-j.j + 1)) (omega arith)) at c.pair-r.ensures in
-    (c.loop-j.invariant.0, fill_turn c.loop-j.invariant.1 h e w (pair_few c.args.op w (proper c.args.left (search rules) (search rules)) (next_proper c.loop-j.invariant.1 h)))
+pub loop-lo-preserved : goal.loop-lo-preserved
+loop-lo-preserved c =
+    let k = c.loop-lo.lo-index in
+    let e = c.as_chunks.ensures in
+    let x = c.as_chunks.result.0.now in
+    let lo = back (first x k) c.lo-1.given in
+    let hi = back (second x k) c.hi-1.given in
+    let room = next_room c.loop-lo.invariant e.front e.front_len c.loop-lo-test.true lo hi in
+    let p = next_proper c.loop-lo.invariant e.front e.front_len c.loop-lo-test.true lo hi in
+    fill_next c.loop-lo.invariant e.front e.front_len c.loop-lo-test.true lo hi (tail_added c.loop-lo.out (omega (arith, room)) c.pair-count.ensures) (pair_few c.args.op (proper c.args.left (search rules) (search rules)) p)
 
 pub returns : goal.returns
-returns c = fill_done c.loop-j.invariant.1 (omega (arith, c.loop-j-test.false, c.loop-j.invariant.0))
+returns c = fill_done c.loop-lo.invariant (omega (arith, c.as_chunks.ensures.front_len))

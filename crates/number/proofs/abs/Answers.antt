@@ -1,16 +1,13 @@
--- The magnitude of a number below 0 is its negative, and that of any other is itself.
--- Assumes nothing.
-use Rattle.std.proofs.Common.{ap, ◌∙◌, to_z-of_z}
-use Rattle.meaning.specs.Number.{negative}
-use Rattle.laws.proofs.Integers.{zarith}
-use Rattle.laws.proofs.Machine.{num, ok}
-use Rattle.number.proofs.Points.{abs_neg, abs_pos}
+-- The magnitude as a word is read as its wrapped value. Assumes nothing.
+use Rattle.std.proofs.Common.{◌∙◌, to_z-of_z, to_z, w64, nat_abs}
+use Rattle.meaning.specs.Number.{absolute}
+use Rattle.laws.proofs.Machine.{back, num}
+use Rattle.laws.proofs.Integers.{zarith, abs_parts}
+use Rattle.words.proofs.Signed.{signed_is}
 use Rattle.number.proofs.abs.Goals as goal
 
-pub returns-then-x-lt0 : goal.returns-then-x-lt0
-returns-then-x-lt0 c =
+pub returns : goal.returns
+unfolding absolute
+returns c =
     let f = c.ranges.x in
-    to_z-of_z (ok c.neg.type_inv) ∙ c.neg.ensures ∙ ap negative (to_z-of_z f) ∙ abs_neg (omega (zarith, num f))
-
-pub returns-else-x-lt0 : goal.returns-else-x-lt0
-returns-else-x-lt0 c = let f = c.ranges.x in to_z-of_z f ∙ abs_pos f (omega (zarith, num f))
+    back _ c.wrapping_abs.type_inv ∙ c.wrapping_abs.ensures ∙ (λ i. to_z w64 (nat_abs (to_z-of_z f i))) ∙ signed_is (nat_abs c.args.x) (omega (zarith, num f, abs_parts c.args.x))

@@ -1,16 +1,12 @@
 -- It is 1000 times the dividend, wrapped, then divided, wrapping, as the definition has it.
 -- Assumes nothing.
-use Rattle.std.proofs.Common.{◌≡◌, true, false, ℤ, pos, ◌*ℤ◌, sym, ap, ◌∙◌, to_z-of_z}
+use Rattle.std.proofs.Common.{◌≡◌, true, false, ℤ, pos, ◌*ℤ◌, ap, ◌∙◌, to_z-of_z}
 use Rattle.std.specs.Prelude.{Some}
 use lib.Signed.{quot_z}
 use Rattle.meaning.specs.Number.{ONE, eq_z, wrap, quotient}
 use Rattle.laws.proofs.Integers.{zarith, if_yes, if_no}
-use Rattle.laws.proofs.Machine.{lit, ok, same, other, differ}
+use Rattle.laws.proofs.Machine.{lit, ok, same, differ}
 use Rattle.number.proofs.div.Goals as goal
-
-pub quot-requires : goal.quot-requires
-quot-requires c =
-    λ e. other {y = pos 0} c.if-y-eq0.false (sym (to_z-of_z c.ranges.y) ∙ e)
 
 pub returns-then-y-eq0 : goal.returns-then-y-eq0
 unfolding quotient

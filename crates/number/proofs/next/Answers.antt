@@ -1,31 +1,24 @@
--- Below MAX the number after x is in range; from MAX on there is none.
--- Assumes nothing.
-use Rattle.std.proofs.Common.{◌≡◌, true, false, pos, ap, ◌∙◌}
-use Rattle.std.specs.Prelude.{Some}
+-- The sum with 1 fits where x is below MAX, and is then the number after x. Assumes nothing.
+use Rattle.std.proofs.Common.{◌≡◌, true, ℤ, pos, ◌+ℤ◌, ap, ◌∙◌, subst, to_z-of_z, w64, SFits, SomeIff, Option, Some, None}
 use lib.Signed.{lt_z}
 use Rattle.meaning.specs.Number.{MAX}
 use Rattle.meaning.specs.Number as point
-use Rattle.laws.proofs.Integers.{zarith, if_yes, if_no}
-use Rattle.laws.proofs.Machine.{num, lit, add_ok, add_is}
+use Rattle.laws.proofs.Integers.{zarith, by_test, if_yes, if_no, add_parts}
+use Rattle.laws.proofs.Machine.{num, fits_out}
 use Rattle.number.proofs.Points.{add_one_is}
 use Rattle.number.proofs.next.Goals as goal
-use Rattle.number.proofs.next.Goals.{Then-x-lt-MAX}
 
--- the test of the code is the definition's
-below : (c : Then-x-lt-MAX) → lt_z c.args.x MAX ≡ true
-below c = omega (zarith, num c.ranges.x)
-
-pub overflow_add-after : goal.overflow_add-after
-overflow_add-after c = let f = c.ranges.x in add_ok f (lit (pos 1) tt) (omega (zarith, num f))
-
-pub returns-then-x-lt-MAX : goal.returns-then-x-lt-MAX
+next_is : {x : ℤ} {r : Option ℤ} → SFits w64 x → SomeIff r (SFits w64 (x +ℤ pos 1)) (x +ℤ pos 1) → r ≡ point.next x
 unfolding point.next
-returns-then-x-lt-MAX c =
+next_is {x} {r = None} f h =
+    by_test (lt_z x MAX)
+    (λ p. absurd (h (fits_out _ (omega (zarith, num f, p, add_parts x (pos 1))))))
+    (λ p. if_no _ _ p)
+next_is {x} {r = Some y} f h =
+    let t : lt_z x MAX ≡ true = omega (zarith, num h.0, add_parts x (pos 1)) in
+    ap Some (h.1 ∙ add_one_is x) ∙ if_yes _ _ t
+
+pub returns : goal.returns
+returns c =
     let f = c.ranges.x in
-    ap Some (add_is f (lit (pos 1) tt) (overflow_add-after c) ∙ add_one_is c.args.x) ∙ if_yes _ _ (below c)
-
-pub returns-else-x-lt-MAX : goal.returns-else-x-lt-MAX
-unfolding point.next
-returns-else-x-lt-MAX c =
-    let t : lt_z c.args.x MAX ≡ false = omega (zarith, num c.ranges.x) in
-    if_no _ _ t
+    next_is f (subst (λ (z : ℤ). SomeIff c.checked_add.result (SFits w64 (z +ℤ pos 1)) (z +ℤ pos 1)) (to_z-of_z f) c.checked_add.ensures)

@@ -1,31 +1,24 @@
--- Above MIN the number before x is in range; at MIN there is none.
--- Assumes nothing.
-use Rattle.std.proofs.Common.{◌≡◌, true, false, pos, ap, ◌∙◌}
-use Rattle.std.specs.Prelude.{Some}
+-- The difference with 1 fits where x is above MIN, and is then the number before x. Assumes nothing.
+use Rattle.std.proofs.Common.{◌≡◌, true, ℤ, pos, ◌-ℤ◌, ap, ◌∙◌, subst, to_z-of_z, w64, SFits, SomeIff, Option, Some, None}
 use lib.Signed.{lt_z}
 use Rattle.meaning.specs.Number.{MIN}
 use Rattle.meaning.specs.Number as point
-use Rattle.laws.proofs.Integers.{zarith, if_yes, if_no}
-use Rattle.laws.proofs.Machine.{num, lit, sub_ok, sub_is}
+use Rattle.laws.proofs.Integers.{zarith, by_test, if_yes, if_no, sub_parts}
+use Rattle.laws.proofs.Machine.{num, fits_out}
 use Rattle.number.proofs.Points.{sub_one_is}
 use Rattle.number.proofs.prev.Goals as goal
-use Rattle.number.proofs.prev.Goals.{Then-x-gt-MIN}
 
--- the test of the code is the definition's
-above : (c : Then-x-gt-MIN) → lt_z MIN c.args.x ≡ true
-above c = omega (zarith, num c.ranges.x)
-
-pub overflow_sub-before : goal.overflow_sub-before
-overflow_sub-before c = let f = c.ranges.x in sub_ok f (lit (pos 1) tt) (omega (zarith, num f))
-
-pub returns-then-x-gt-MIN : goal.returns-then-x-gt-MIN
+prev_is : {x : ℤ} {r : Option ℤ} → SFits w64 x → SomeIff r (SFits w64 (x -ℤ pos 1)) (x -ℤ pos 1) → r ≡ point.prev x
 unfolding point.prev
-returns-then-x-gt-MIN c =
+prev_is {x} {r = None} f h =
+    by_test (lt_z MIN x)
+    (λ p. absurd (h (fits_out _ (omega (zarith, num f, p, sub_parts x (pos 1))))))
+    (λ p. if_no _ _ p)
+prev_is {x} {r = Some y} f h =
+    let t : lt_z MIN x ≡ true = omega (zarith, num h.0, sub_parts x (pos 1)) in
+    ap Some (h.1 ∙ sub_one_is x) ∙ if_yes _ _ t
+
+pub returns : goal.returns
+returns c =
     let f = c.ranges.x in
-    ap Some (sub_is f (lit (pos 1) tt) (overflow_sub-before c) ∙ sub_one_is c.args.x) ∙ if_yes _ _ (above c)
-
-pub returns-else-x-gt-MIN : goal.returns-else-x-gt-MIN
-unfolding point.prev
-returns-else-x-gt-MIN c =
-    let t : lt_z MIN c.args.x ≡ false = omega (zarith, num c.ranges.x) in
-    if_no _ _ t
+    prev_is f (subst (λ (z : ℤ). SomeIff c.checked_sub.result (SFits w64 (z -ℤ pos 1)) (z -ℤ pos 1)) (to_z-of_z f) c.checked_sub.ensures)

@@ -1,16 +1,21 @@
--- The difference of the bits modulo 2^64 has the bits of the wrapped difference.
--- Assumes nothing.
-use Rattle.std.proofs.Common.{ℕ, ◌+◌, ◌%◌, ◌^◌, sym, ap, ◌∙◌, to_z-of_z}
+-- The difference of the bits modulo 2^64 has the bits of the wrapped difference. Assumes nothing.
+use Rattle.std.proofs.Common.{ℤ, pos, negsuc, ◌+◌, ◌-◌, ◌%◌, ◌^◌, ◌<◌, ◌∙◌, of_z, w64, SFits, arith}
 use Rattle.meaning.specs.Number.{difference}
-use Rattle.laws.proofs.Machine.{ok}
-use Rattle.laws.proofs.Wrapping.{low, wrap_sub}
+use Rattle.laws.proofs.Wrapping.{low_bits, wrap_sub}
+use Rattle.words.proofs.Signed.{signed_is}
 use Rattle.number.proofs.sub.Goals as goal
+
+-- the bits are a word
+is_word : (z : ℤ) → SFits w64 z → of_z w64 z < 2 ^ 64
+is_word (pos n) f = omega (arith, f.sfits)
+is_word (negsuc n) f = omega arith
 
 pub returns : goal.returns
 unfolding difference
 returns c =
-    let x = c.bits.ensures ∙ ap low (to_z-of_z c.ranges.x) in
-    let y = c.bits-2.ensures ∙ ap low (to_z-of_z c.ranges.y) in
-    let r = c.wrapping_sub_u64.result in
-    to_z-of_z (ok c.of_bits.type_inv) ∙ c.of_bits.ensures
-    ∙ wrap_sub c.args.x c.args.y c.ranges.x c.ranges.y r (ap (λ (n : ℕ). (r + n) % 2 ^ 64) (sym y) ∙ c.wrapping_sub_u64.ensures.value ∙ x)
+    let x = c.args.x in
+    let y = c.args.y in
+    let f = c.ranges.x in
+    let g = c.ranges.y in
+    signed_is _ (omega arith)
+    ∙ wrap_sub x y f g ((of_z w64 x + (2 ^ 64 - of_z w64 y)) % 2 ^ 64) (omega (arith, low_bits x f, low_bits y g, is_word x f, is_word y g))

@@ -1,35 +1,28 @@
--- Each turn counts the lines of one register more: two ends make an interval. Assumes nothing.
-use mathlib.Core.Path.{ap}
-use Prim.Native.Nat.{◌/◌}
-use native.Mathlib.Omega.{arith}
+-- Each turn counts the rows of one register more: two ends make an interval. Assumes nothing.
+use mathlib.Core.Path.{refl}
+use Prim.Native.Nat.{◌/◌, ◌≤◌}
 use lib.ListN.{length}
-use Rattle.page.proofs.Rows.{own_no, rows_end, count_next, ends_count, ends_few}
+use Rattle.meaning.specs.Check.{interval_limit}
+use Rattle.laws.proofs.PageReadBack.{length_rows}
+use Rattle.set_values.specs.Value.{set_of}
+use native.Mathlib.Omega.{arith}
+use Rattle.page.proofs.Rows.{counted_next, counted_all, set_few, ends_count}
 use Rattle.page.proofs.count_lines.Goals as goal
-use Rattle.page.proofs.count_lines.Goals.{then-is_marked, else-is_marked}
-
-pub overflow_add-n : goal.overflow_add-n
-overflow_add-n c =
-    let k = ends_few c.args.marks.now c.args.sets.now c.requires c.loop-r.r (omega arith) c.if-is_marked.true c.ends_of.ensures in
-    omega (arith, k, c.loop-r.invariant.0)
+use Rattle.page.proofs.count_lines.Goals.{in-Some, in_default}
 
 pub loop-r-preserved : goal.loop-r-preserved
 loop-r-preserved c =
-    let m = c.args.marks.now in
-    let l = c.args.sets.now in
+    let s = c.args.shown.now in
     let r = c.loop-r.r in
-    elim c.if-is_marked.branch [
-      | then-is_marked w ↦
-          let k = ends_few m l c.requires r (omega arith) w.if-is_marked.true w.ends_of.ensures in
-          rw w.n-is (
-            omega (arith, k, c.loop-r.invariant.0),
-            count_next m l r c.loop-r.n (length w.ends_of.result.now / 2) (omega arith) (ends_count m l c.requires r (omega arith) w.if-is_marked.true w.ends_of.ensures) c.loop-r.invariant.1,
-          )
-      | else-is_marked w ↦
-          let k = ap length (own_no m l r w.if-is_marked.false) in
-          rw w.n-is (omega (arith, c.loop-r.invariant.0), omega (arith, count_next m l r c.loop-r.n 0 (omega arith) k c.loop-r.invariant.1))
+    let h = c.loop-r-test.true in
+    elim c.match-set.branch [
+      | in-Some w ↦
+          let set = w.in-Some.set in
+          let e = w.ends.ensures in
+          let few : length w.ends.result.set.numbers.now / 2 ≤ interval_limit = omega (arith, ends_count set e r, length_rows r (set_of set), set_few set) in
+          counted_next s r c.loop-r.invariant h (rw w.in-Some.is at c.set.ensures) (length w.ends.result.set.numbers.now / 2) few (ends_count set e r) w.n-is
+      | in_default w ↦ counted_next s r c.loop-r.invariant h (rw w.in_default.is at c.set.ensures) 0 (omega arith) refl (omega (arith, w.n-is))
     ]
 
 pub returns : goal.returns
-returns c =
-    let k = ap length (rows_end c.args.marks.now c.args.sets.now c.loop-r.r (omega arith)) in
-    (omega (arith, k, c.loop-r.invariant.1), omega (arith, c.loop-r.invariant.0))
+returns c = (counted_all c.args.shown.now c.loop-r.r c.loop-r.invariant (omega arith), omega (arith, c.loop-r.invariant.few))

@@ -3,7 +3,7 @@ use native.Mathlib.Omega.{arith}
 use mathlib.Core.List.{◌++◌}
 use Rattle.meaning.specs.Bytes.{bytes}
 use Rattle.meaning.specs.Listing.{decimal}
-use Rattle.decimal.proofs.Chain.{appends_as, appends_next}
+use Rattle.writer.proofs.Chain.{appends_as, appends_next}
 use Rattle.page_lines.proofs.Writing.{left_is, name_most}
 use Rattle.page_lines.proofs.left_name.Goals as goal
 

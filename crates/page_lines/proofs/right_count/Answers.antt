@@ -3,12 +3,11 @@ use mathlib.Core.Path.{◌≡◌, ap, ◌∙◌}
 use native.Mathlib.Omega.{arith}
 use Prim.Native.Nat.{◌+◌}
 use borrow.Author.Rules.{rules}
-use lib.IntN.{◌-ℤ◌}
 use lib.ListN.{length}
-use mir.Facts.{to_z-of_z}
+use Rattle.interval.proofs.SumRules.{distance_gives}
 use Rattle.laws.proofs.Decimals.{decimal_most}
 use Rattle.meaning.specs.Listing.{decimal}
-use Rattle.decimal.proofs.Chain.{appends_as, first_text}
+use Rattle.writer.proofs.Chain.{appends_as, first_written}
 use Rattle.meaning.specs.Page.{right_set}
 use Rattle.page_lines.proofs.Writing.{most_members, fewer_members}
 use Rattle.page_lines.proofs.right_count.Goals as goal
@@ -20,11 +19,11 @@ push_number-requires c =
 
 pub returns-in-Some-clause-text : goal.returns-in-Some-clause-text
 returns-in-Some-clause-text c =
-    let d = c.distance.ensures ∙ (λ i. to_z-of_z c.ranges.hi i -ℤ to_z-of_z c.ranges.lo i) in
+    let d = distance_gives {s = c.args.numbers.lo} {e = c.args.numbers.hi} (search rules) (search rules) c.distance.ensures in
     let n : c.in-Some.count ≡ c.distance.result + 1 = search rules in
-    appends_as (ap (right_set 20) (c.text.ensures ∙ first_text c.new-number.ensures c.push_number.ensures ∙ ap decimal n ∙ fewer_members c.args.lo c.args.hi c.distance.result d)) c.right_text.ensures.text
+    appends_as (ap (right_set 20) (c.written.ensures ∙ first_written c.new-number.ensures c.push_number.ensures ∙ ap decimal n ∙ fewer_members c.args.numbers.lo c.args.numbers.hi c.distance.result d)) c.right_text.ensures.text
 
 pub returns-in-None-clause-text : goal.returns-in-None-clause-text
 returns-in-None-clause-text c =
-    let d = c.distance.ensures ∙ (λ i. to_z-of_z c.ranges.hi i -ℤ to_z-of_z c.ranges.lo i) in
-    appends_as (ap (right_set 20) (most_members c.args.lo c.args.hi _ (grind (arith, c.in-None.ensures)) d)) c.right_text-in-None.ensures.text
+    let d = distance_gives {s = c.args.numbers.lo} {e = c.args.numbers.hi} (search rules) (search rules) c.distance.ensures in
+    appends_as (ap (right_set 20) (most_members c.args.numbers.lo c.args.numbers.hi _ (grind (arith, c.in-None.ensures)) d)) c.right_text-in-None.ensures.text

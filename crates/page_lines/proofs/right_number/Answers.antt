@@ -6,7 +6,7 @@ use mir.Facts.{to_z-of_z}
 use Rattle.meaning.specs.Listing.{decimal_z}
 use Rattle.laws.proofs.Machine.{rd, rd_fits, fits_range}
 use Rattle.laws.proofs.Decimals.{decimal_z_most}
-use Rattle.decimal.proofs.Chain.{appends_as, first_text}
+use Rattle.writer.proofs.Chain.{appends_as, first_written}
 use Rattle.meaning.specs.Page.{right_set}
 use Rattle.page_lines.proofs.right_number.Goals as goal
 
@@ -17,4 +17,4 @@ push_signed-requires c =
 
 pub returns-clause-text : goal.returns-clause-text
 returns-clause-text c =
-    appends_as (ap (right_set 20) (c.text.ensures ∙ first_text c.new-number.ensures c.push_signed.ensures ∙ ap decimal_z (to_z-of_z c.ranges.x))) c.right_text.ensures.text
+    appends_as (ap (right_set 20) (c.written.ensures ∙ first_written c.new-number.ensures c.push_signed.ensures ∙ ap decimal_z (to_z-of_z c.ranges.x))) c.right_text.ensures.text

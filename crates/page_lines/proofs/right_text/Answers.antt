@@ -1,5 +1,5 @@
 -- Blanks, and the text behind them. Assumes nothing.
-use Rattle.decimal.proofs.Chain.{appends_as, appends_next}
+use Rattle.writer.proofs.Chain.{appends_as, appends_next}
 use Rattle.page_lines.proofs.Writing.{right_is}
 use Rattle.page_lines.proofs.right_text.Goals as goal
 

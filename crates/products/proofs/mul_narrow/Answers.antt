@@ -3,7 +3,7 @@ use Rattle.std.proofs.Common.{◌∙◌, ap, ◌*ℤ◌, w64, SFits, rules}
 use Rattle.meaning.specs.Number.{thousandth}
 use Rattle.meaning.specs.Interval.{span}
 use Rattle.laws.proofs.Machine.{back}
-use Rattle.slices.proofs.Lent.{wrote_as}
+use Rattle.slices.proofs.Behind.{adds_as}
 use Rattle.wide.proofs.Extremes.{least_of_four, greatest_of_four}
 use Rattle.products.proofs.SmallProducts.{st_fits, sf_fits, et_fits, ef_fits, product_read, small_mul}
 use Rattle.products.proofs.mul_narrow.Goals as goal
@@ -29,4 +29,4 @@ returns c =
     let g = back x.result.1 (search rules) ∙ x.ensures.greatest ∙ greatest_of_four ◌*ℤ◌ s e t f p q u v in
     let a = back _ c.milli.type_inv ∙ c.milli.ensures ∙ ap thousandth l in
     let b = back _ c.milli-2.type_inv ∙ c.milli-2.ensures ∙ ap thousandth g in
-    wrote_as ((λ j. span (a j) (b j)) ∙ small_mul s e t f n m) c.put_one.ensures
+    adds_as ((λ j. span (a j) (b j)) ∙ small_mul s e t f n m) c.put_one.ensures

@@ -4,7 +4,7 @@ use mathlib.Core.Path.{subst₂}
 use Rattle.meaning.specs.Interval.{spread, least_corner, greatest_corner}
 use Rattle.laws.proofs.Machine.{rd}
 use Rattle.laws.proofs.Products.{corners_ordered}
-use Rattle.slices.proofs.Lent.{wrote_as}
+use Rattle.slices.proofs.Behind.{adds_as}
 use Rattle.products.specs.Thousandths.{thousandths}
 use Rattle.products.proofs.Thousandths.{thousandths_are}
 use Rattle.products.proofs.mul_wide.Goals as goal
@@ -25,4 +25,4 @@ returns c =
     let F : SFits w64 r.hi = search rules in
     let p = c.corners.ensures.least ∙ (λ i. least_corner ◌*ℤ◌ (to_z-of_z S i) (to_z-of_z E i) (to_z-of_z T i) (to_z-of_z F i)) in
     let q = c.corners.ensures.greatest ∙ (λ i. greatest_corner ◌*ℤ◌ (to_z-of_z S i) (to_z-of_z E i) (to_z-of_z T i) (to_z-of_z F i)) in
-    wrote_as (ap thousandths (c.spread_of.ensures ∙ ap₂ spread p q) ∙ sym (thousandths_are l.lo l.hi r.lo r.hi)) c.put_thousandths.ensures
+    adds_as (ap thousandths (c.spread_of.ensures ∙ ap₂ spread p q) ∙ sym (thousandths_are l.lo l.hi r.lo r.hi)) c.put_thousandths.ensures

@@ -6,7 +6,7 @@ use Rattle.remainders.proofs.RemRules.{rem_room}
 use Rattle.remainders.proofs.rem_pair.Goals as goal
 
 pub rem_with-requires : goal.rem_with-requires
-rem_with-requires c = rem_room (proper c.args.left (search rules) (search rules)) (proper c.args.right (search rules) (search rules)) c.requires
+rem_with-requires c = rem_room c.args.out.now (proper c.args.left (search rules) (search rules)) (proper c.args.right (search rules) (search rules)) c.requires
 
 pub returns : goal.returns
 unfolding rem_pair

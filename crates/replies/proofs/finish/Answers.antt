@@ -1,6 +1,9 @@
--- The answer is handed out, and zeroing leaves nothing of it.
-use Rattle.replies.proofs.Fronts.{filled_over}
+-- The answer is handed out, and zeroing leaves nothing of it. Assumes nothing.
+use Rattle.std.proofs.Common.{arith}
+use Rattle.std.proofs.lemmas.List.{length-take-le}
 use Rattle.replies.proofs.finish.Goals as goal
 
 pub returns : goal.returns
-returns c = (c.hand_out-answer.ensures.0, c.hand_out-answer.ensures.1, filled_over c.args.need c.args.work.now _ _ c.requires.1 (c.fill.ensures.after (λ y h. h)))
+returns c =
+    let h = rw (length-take-le c.args.written.count c.args.work.now (omega arith)) at c.hand_out-answer.ensures in
+    (h.0, h.1, c.fill.ensures.after (λ y h. h))

@@ -1,7 +1,8 @@
 -- `run_lines::run_line` meets its contract: one case for each kind of line.
-use Rattle.std.proofs.Common.{◌≡◌, rules, true, false, pos, get_or}
+use Rattle.std.proofs.Common.{◌≡◌, rules, true, false, pos, get_or, Err, ap, sym, ◌∙◌}
 use Rattle.meaning.specs.Number.{within}
-use Rattle.run_lines.proofs.Lines.{in_goes, in_halts, hold_goes, hold_halts}
+use Rattle.run_lines.proofs.Lines.{in_goes, in_halts, hold_goes, hold_halts, put_halts}
+use Rattle.point_forms.specs.Answer.{res_of}
 use Rattle.run_lines.proofs.run_line.Goals as goal
 
 pub returns-then-not-contains : goal.returns-then-not-contains
@@ -13,6 +14,12 @@ pub returns-else-not-contains : goal.returns-else-not-contains
 returns-else-not-contains c =
     let w : within c.in-In.range.lo (get_or c.args.lent.now c.in-In.register (pos 0)) c.in-In.range.hi ≡ true = search rules in
     let g = in_goes c.args.lent.now c.args.state.now c.args.text.now c.in_ok-register.ensures c.in-In.is w in search rules
+
+pub returns-in_err-state-in-Put : goal.returns-in_err-state-in-Put
+returns-in_err-state-in-Put c =
+    let x : c.from_residual-in_err-state-in-Put.result ≡ Err c.in_err-state-in-Put.field-0.0 = search rules in
+    let h = put_halts c.args.lent.now c.args.state.now c.args.text.now c.in_ok-register.ensures c.in-Put.is (sym (ap res_of c.in_err-state-in-Put.was) ∙ c.value.ensures) in
+    rw x h
 
 pub returns-then-not-contains-2 : goal.returns-then-not-contains-2
 returns-then-not-contains-2 c =

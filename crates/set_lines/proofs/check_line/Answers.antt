@@ -1,4 +1,4 @@
--- One case for each kind of line.
+-- One case for each kind of line. Assumes nothing.
 use mathlib.Core.Path.{ap, ◌∙◌}
 use Rattle.std.proofs.lemmas.Result.{err_from_is_err_and}
 use Rattle.meaning.specs.NumberIntervals.{Set}
@@ -21,18 +21,18 @@ returns-in-In c =
     in_is c.args.text.now (read_as c.args.text.now c.read_line.ensures c.in_ok-r.was c.in-In.is) (sets_of c.args.registers.now) c.give.ensures c.from.ensures
 
 pub give-requires-in-Put : goal.give-requires-in-Put
-give-requires-in-Put c = put_there c.args.text.now c.in-Put.r c.in-Put.j (read_as c.args.text.now c.read_line.ensures c.in_ok-r.was c.in-Put.is)
+give-requires-in-Put c = put_there c.args.text.now c.in-Put.r c.in-Put.form.now (read_as c.args.text.now c.read_line.ensures c.in_ok-r.was c.in-Put.is)
 
 pub returns-in_ok-value-in-Put : goal.returns-in_ok-value-in-Put
 returns-in_ok-value-in-Put c =
-    put_worked c.args.text.now c.in-Put.r c.in-Put.j (read_as c.args.text.now c.read_line.ensures c.in_ok-r.was c.in-Put.is)
-    (sets_of c.args.registers.now) c.value_at.ensures (ap result_of c.in_ok-value-in-Put.was) c.give-in-Put.ensures
+    put_worked c.args.text.now c.in-Put.r c.in-Put.form.now (read_as c.args.text.now c.read_line.ensures c.in_ok-r.was c.in-Put.is)
+    (sets_of c.args.registers.now) c.value.ensures (ap result_of c.in_ok-value-in-Put.was) c.give-in-Put.ensures
 
 pub returns-in_err-value-in-Put : goal.returns-in_err-value-in-Put
 returns-in_err-value-in-Put c =
     let p = err_from_is_err_and c.from_residual-in_err-value-in-Put.result c.from_residual-in_err-value-in-Put.ensures.1 in
-    rw (p.1, p.2) (put_stopped c.args.text.now c.in-Put.r c.in-Put.j (read_as c.args.text.now c.read_line.ensures c.in_ok-r.was c.in-Put.is)
-    (sets_of c.args.registers.now) c.value_at.ensures (ap result_of c.in_err-value-in-Put.was))
+    rw (p.1, p.2) (put_stopped c.args.text.now c.in-Put.r c.in-Put.form.now (read_as c.args.text.now c.read_line.ensures c.in_ok-r.was c.in-Put.is)
+    (sets_of c.args.registers.now) c.value.ensures (ap result_of c.in_err-value-in-Put.was))
 
 pub set-requires : goal.set-requires
 set-requires c = hold_there c.args.text.now (read_as c.args.text.now c.read_line.ensures c.in_ok-r.was c.in-Hold.is)

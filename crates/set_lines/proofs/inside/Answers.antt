@@ -1,4 +1,4 @@
--- Each pair of ends is tested.
+-- Each pair of ends is tested. Assumes nothing.
 use mathlib.Core.Path.{refl, ◌∙◌}
 use Prim.Native.Nat.{◌/◌}
 use lib.ListN.{length}

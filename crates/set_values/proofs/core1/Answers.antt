@@ -1,29 +1,22 @@
--- The core's answer, or what the opposite may be.
-use mathlib.Core.Path.{ap, ◌∙◌}
-use native.Mathlib.Omega.{arith}
+-- The joined answer, or what the opposite may be. Assumes nothing.
+use mathlib.Core.Path.{refl, ap, ◌∙◌}
 use Rattle.meaning.specs.Bools.{not_bools}
 use Rattle.meaning.specs.NumberIntervals.{of_bools, set1, flag1}
-use Rattle.cores.specs.declared.Op.TheVariants.{Neg, Abs}
 use Rattle.cores.specs.Operation.{neg_alone, abs_alone}
-use Rattle.cores.proofs.Operations.{zero_argument}
-use Rattle.set_values.proofs.Cores.{need_le, alone_left, left_same}
+use Rattle.cores.proofs.Operations.{zero_ends}
+use Rattle.set_values.proofs.Cores.{alone_left, left_as}
 use Rattle.set_values.proofs.core1.Goals as goal
 
-pub answer-requires : goal.answer-requires
-answer-requires c = (c.requires, zero_argument, need_le Neg _ _ c.requires zero_argument (omega arith))
-
-pub answer-requires-in-Abs : goal.answer-requires-in-Abs
-answer-requires-in-Abs c = (c.requires, zero_argument, need_le Abs _ _ c.requires zero_argument (omega arith))
+pub invariant_of-zero : goal.invariant_of-zero
+invariant_of-zero c = record { set = zero_ends }
 
 pub returns-in-Neg : goal.returns-in-Neg
-returns-in-Neg c =
-    rw c.in-Neg.is (alone_left neg_alone _ c.requires (omega arith) c.answer.auto.work c.answer.ensures)
+returns-in-Neg c = rw c.in-Neg.is (alone_left _ _ _ c.join.ensures neg_alone refl)
 
 pub returns-in-Abs : goal.returns-in-Abs
-returns-in-Abs c =
-    rw c.in-Abs.is (alone_left abs_alone _ c.requires (omega arith) c.answer-in-Abs.auto.work c.answer-in-Abs.ensures)
+returns-in-Abs c = rw c.in-Abs.is (alone_left _ _ _ c.join-in-Abs.ensures abs_alone refl)
 
 pub returns-in-Not : goal.returns-in-Not
 unfolding set1 flag1
 returns-in-Not c =
-    rw c.in-Not.is (left_same (ap of_bools (c.not.ensures ∙ ap not_bools c.of_set.ensures)) c.put_bools.ensures)
+    rw c.in-Not.is (left_as (ap of_bools (c.not.ensures ∙ ap not_bools c.of_set.ensures)) refl c.put_bools.ensures)

@@ -1,4 +1,4 @@
--- One of the pairs holds the number.
+-- One of the pairs holds the number. Assumes nothing.
 use mathlib.Core.Path.{refl, ap, ◌∙◌}
 use borrow.Author.Rules.{rules}
 use Rattle.std.specs.List.{list_any}

@@ -1,60 +1,71 @@
--- Each turn tests one interval against its neighbour, and reads both of its ends, so all that was passed is in range; the last one has no neighbour.
-use mathlib.Core.Path.{◌≡◌, refl, sym, ◌∙◌}
-use Prim.Native.Nat.{◌+◌, ◌≤◌}
+-- Each turn tests one interval against its neighbour, and reads both of its ends, so all that was passed is in range; the last one has no neighbour. Assumes nothing.
+use mathlib.Core.Path.{◌≡◌, ap, ◌∙◌}
+use mathlib.Core.Bool.{◌&&◌}
+use Prim.Native.Nat.{◌^◌, ◌-◌, ◌<◌}
 use native.Mathlib.Omega.{arith}
-use lib.ListN.{length}
-use lib.Signed.{le_z}
-use Rattle.meaning.specs.NumberIntervals.{normal}
-use Rattle.laws.proofs.Integers.{never}
-use Rattle.laws.proofs.Machine.{back, fit, fits_range, rd}
+use lib.ListN.{length, take, drop, length-drop}
+use lib.Seq.{take_all}
+use lib.Signed.{le_z, mag}
+use Rattle.meaning.specs.NumberIntervals.{apart}
+use Rattle.laws.proofs.Machine.{back, fit, fits_range}
 use Rattle.sorting.proofs.Steps.{end_at}
-use Rattle.laws.proofs.Flat.{ends_normal}
-use Rattle.sets.proofs.Reading.{normal_end, normal_last, normal_one, normal_not, normal_so, range_two, range_all}
+use Rattle.sets.proofs.Reading.{passed_start, passed_next, passed_not, passed_none, passed_two, normal_two, passed_odd, both_made, one_made}
 use Rattle.sets.proofs.is_normal.Goals as goal
+use Rattle.sets.proofs.is_normal.Goals.{then-a-b, else-a-b}
 
-pub loop-i-init : goal.loop-i-init
-loop-i-init c = (omega arith, refl, refl, tt)
+pub loop-ends-init : goal.loop-ends-init
+loop-ends-init c = passed_start c.args.s.now
 
-pub returns-then-not-fine_at : goal.returns-then-not-fine_at
-returns-then-not-fine_at c =
-    let s = c.args.s.now in
-    let t = sym c.fine_at.ensures.value ∙ c.if-not-fine_at.true in record {
-      value = sym (c.loop-i.invariant.2 ∙ normal_not s c.loop-i.i (omega arith) t);
-      normal = λ e. never (sym e);
-    }
+pub returns-then-not-apart-clause-value : goal.returns-then-not-apart-clause-value
+returns-then-not-apart-clause-value c =
+    let l = c.loop-ends.ends.now in
+    let p = back (end_at l 0) (omega arith) in
+    let q = back (end_at l 1) (omega arith) in
+    let t : (le_z (end_at l 0) (end_at l 1) && apart (end_at l 1) (end_at l 2)) ≡ c.if-a-b.value =
+    elim c.if-a-b.branch [
+      | then-a-b w ↦ both_made (end_at l 0) (end_at l 1) (end_at l 2) (rw (p, q) at w.if-a-b.true) (let r = back (end_at l 2) (omega arith) in rw (q, r) at w.apart.ensures) w.value-is
+      | else-a-b w ↦ one_made (end_at l 0) (end_at l 1) (end_at l 2) (rw (p, q) at w.if-a-b.false) (w.value-is ∙ w.if-a-b.false)
+    ] in
+    passed_not c.loop-ends.invariant c.in-len3-up.len_at_least (t ∙ c.if-not-apart.true)
 
-pub loop-i-preserved : goal.loop-i-preserved
-loop-i-preserved c =
-    let s = c.args.s.now in
-    let i = c.loop-i.i in
-    let h : i + 2 ≤ length s = omega arith in
-    let t = sym c.fine_at.ensures.value ∙ c.if-not-fine_at.false in
-    (omega arith, refl, c.loop-i.invariant.2 ∙ normal_so s i h t, range_two s i h c.loop-i.invariant.3 c.fine_at.ensures.start_in_range c.fine_at.ensures.end_in_range)
+pub loop-ends-smaller : goal.loop-ends-smaller
+loop-ends-smaller c =
+    let l = c.loop-ends.ends.now in
+    let e : take (length l - 2) (drop 2 l) ≡ drop 2 l = take_all (length l - 2) (drop 2 l) (omega (arith, length-drop 2 l)) in
+    omega (arith, ap length e, length-drop 2 l, c.in-len3-up.len_at_least)
 
-pub returns-then-i-n : goal.returns-then-i-n
-returns-then-i-n c =
-    let s = c.args.s.now in
-    let h : length s ≤ c.loop-i.i = omega arith in
-    let t = c.loop-i.invariant.2 ∙ normal_end s c.loop-i.i h in record {
-      value = sym t;
-      normal = λ e. ends_normal s t (range_all s c.loop-i.i h c.loop-i.invariant.3);
-    }
+pub loop-ends-preserved : goal.loop-ends-preserved
+loop-ends-preserved c =
+    let l = c.loop-ends.ends.now in
+    let m : mag (end_at l 0) < 2 ^ 63 = omega arith in
+    let n : mag (end_at l 1) < 2 ^ 63 = omega arith in
+    let p = back (end_at l 0) m in
+    let q = back (end_at l 1) n in
+    let t : (le_z (end_at l 0) (end_at l 1) && apart (end_at l 1) (end_at l 2)) ≡ c.if-a-b.value =
+    elim c.if-a-b.branch [
+      | then-a-b w ↦ both_made (end_at l 0) (end_at l 1) (end_at l 2) (rw (p, q) at w.if-a-b.true) (let r = back (end_at l 2) (omega arith) in rw (q, r) at w.apart.ensures) w.value-is
+      | else-a-b w ↦ one_made (end_at l 0) (end_at l 1) (end_at l 2) (rw (p, q) at w.if-a-b.false) (w.value-is ∙ w.if-a-b.false)
+    ] in
+    let e : take (length l - 2) (drop 2 l) ≡ drop 2 l = take_all (length l - 2) (drop 2 l) (omega (arith, length-drop 2 l)) in
+    rw e (passed_next c.loop-ends.invariant c.in-len3-up.len_at_least (t ∙ c.if-not-apart.false) (fits_range (fit (end_at l 0) m)) (fits_range (fit (end_at l 1) n)))
 
-pub returns-then-n-i-lt2 : goal.returns-then-n-i-lt2
-returns-then-n-i-lt2 c =
-    let s = c.args.s.now in record {
-      value = sym (c.loop-i.invariant.2 ∙ normal_last s c.loop-i.i (omega arith) (omega arith));
-      normal = λ e. never (sym e);
-    }
+pub returns-in-empty : goal.returns-in-empty
+returns-in-empty c =
+    let n = passed_none c.loop-ends.invariant c.in-empty.len_below in
+    record { value = n.0; normal = λ e. n.1 }
 
-pub returns : goal.returns
-returns c =
-    let s = c.args.s.now in
-    let i = c.loop-i.i in
-    let h : i + 2 ≡ length s = omega arith in
-    let p = c.a-1.given in
-    let q = c.b-1.given in
-    let u : le_z (rd (end_at s i)) (rd (end_at s (i + 1))) ≡ normal s = rw (back (end_at s i) p, back (end_at s (i + 1)) q) (sym (c.loop-i.invariant.2 ∙ normal_one s i h)) in record {
-      value = u;
-      normal = λ e. ends_normal s (sym u ∙ e) (range_all s (i + 2) (omega arith) (range_two s i (omega arith) c.loop-i.invariant.3 (fits_range (fit (end_at s i) p)) (fits_range (fit (end_at s (i + 1)) q))));
-    }
+pub returns-in-len2 : goal.returns-in-len2
+returns-in-len2 c =
+    let l = c.loop-ends.ends.now in
+    let h : length l ≡ 2 = omega (arith, c.in-len2.len_at_least, c.in-len2.len_below) in
+    let m : mag (end_at l 0) < 2 ^ 63 = omega arith in
+    let n : mag (end_at l 1) < 2 ^ 63 = omega arith in
+    let p = back (end_at l 0) m in
+    let q = back (end_at l 1) n in
+    rw (p, q) (record {
+      value = passed_two c.loop-ends.invariant h;
+      normal = normal_two c.loop-ends.invariant h (fits_range (fit (end_at l 0) m)) (fits_range (fit (end_at l 1) n));
+    })
+
+pub returns-in_default-ends-clause-value : goal.returns-in_default-ends-clause-value
+returns-in_default-ends-clause-value c = passed_odd c.loop-ends.invariant (omega arith)

@@ -1,13 +1,10 @@
-use mathlib.Core.Path.{◌≡◌}
-use Prim.Native.Nat.{◌-◌, ◌≤◌}
-use lib.ListN.{length, take, drop}
-use Rattle.meaning.specs.Lists.{All}
-use Rattle.meaning.specs.Number.{InRange}
-use Rattle.meaning.specs.NumberIntervals.{normal}
+-- What was passed is in range, and what is left decides. Assumes nothing.
+use lib.ListN.{length}
+use Rattle.sets.proofs.Reading.{Passed}
 use Rattle.sets.proofs.is_normal.Given as goal
 
-abbrev pub invariant-loop-i : goal.invariant-loop-i
-invariant-loop-i l = (l.i ≤ l.n) × (l.n ≡ length l.s) × (normal l.s ≡ normal (drop l.i l.s)) × All InRange (take l.i l.s)
+abbrev pub invariant-loop-ends : goal.invariant-loop-ends
+invariant-loop-ends l = Passed l.s l.ends
 
-abbrev pub decreases-loop-i : goal.decreases-loop-i
-decreases-loop-i l = l.n - l.i
+abbrev pub decreases-loop-ends : goal.decreases-loop-ends
+decreases-loop-ends l = length l.ends

@@ -4,4 +4,4 @@ use Rattle.sheet_check.proofs.Walking.{Going}
 use Rattle.sheet_check.proofs.check_lines.Given as goal
 
 abbrev pub invariant-loop-n : goal.invariant-loop-n
-invariant-loop-n l = Going l.text l.registers l.n-iterator.count (lines l.n-iterator.iter.rest.now)
+invariant-loop-n l = Going l.text l.count l.registers l.n-iterator.count (lines l.n-iterator.iter.rest.now)

@@ -1,9 +1,7 @@
--- The numbers written are the ends. Assumes nothing.
-use Rattle.std.proofs.Common.{[], ◌∷◌, ◌∙◌, to_z-of_z, rules}
-use Rattle.meaning.specs.Lists.{over}
-use Rattle.meaning.specs.NumberIntervals.{flat}
+-- The numbers stored are the ends. Assumes nothing.
+use Rattle.std.proofs.Common.{to_z-of_z}
+use Rattle.slices.proofs.Behind.{adds_stored}
 use Rattle.slices.proofs.put_one.Goals as goal
 
 pub returns : goal.returns
-unfolding flat
-returns c = record { count = c.put.ensures.count; left = c.put.ensures.after ∙ (λ i. over (to_z-of_z c.ranges.a i ∷ to_z-of_z c.ranges.b i ∷ []) c.args.out.now); room = search (rules, c.put.ensures.count) }
+returns c = rw (to_z-of_z c.ranges.a, to_z-of_z c.ranges.b) (adds_stored c.args.out.now c.args.a c.args.b c.requires)

@@ -1,4 +1,4 @@
--- What all calls with work do, on the left set and {0}.
+-- What all calls with work do, on the left set and {0}. Assumes nothing.
 use mathlib.Core.Path.{◌∙◌}
 use Rattle.cores.specs.Operation.{neg_alone}
 use Rattle.set_calls.proofs.Calls.{alone_refusal, alone_ended}

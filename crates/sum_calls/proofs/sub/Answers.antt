@@ -1,4 +1,4 @@
--- What all calls of two sets with work do, for its own operation.
+-- What all calls of two sets with work do, for its own operation. Assumes nothing.
 use Rattle.meaning.specs.Number as point
 use Rattle.set_calls.proofs.Right.{works2}
 use Rattle.sum_calls.proofs.sub.Goals as goal

@@ -1,20 +1,7 @@
--- A refused argument, or what the operation may give, handed out.
-use Rattle.std.proofs.Common.{refl, ap}
-use Rattle.std.proofs.lemmas.Result.{err_from_is_err_and}
+-- The promise of the point operation, from what the call hands out. Assumes nothing.
 use Rattle.meaning.specs.Number as point
-use Rattle.meaning.specs.NumberIntervals.{of_bools, set2, flag2}
-use Rattle.meaning.specs.SetCalls.{factor2}
-use Rattle.refusals.proofs.Rows.{number_not_zero}
-use Rattle.set_calls.proofs.Right.{gives2_refused, gives2_bools}
+use Rattle.set_calls.proofs.Right.{gives2}
 use Rattle.truth_calls.proofs.int_le.Goals as goal
 
-pub returns-in_err-accept_both : goal.returns-in_err-accept_both
-returns-in_err-accept_both c =
-    let p = err_from_is_err_and c.from_residual.result c.from_residual.ensures.1 in
-    rw (p.1, p.2) record { gives2 = gives2_refused _ _ _ c.in_err-accept_both.ensures.refused (number_not_zero _) point.le }
-
 pub returns : goal.returns
-unfolding set2 flag2 factor2
-returns c =
-    let a = c.in_ok-accept_both.ensures in
-    record { gives2 = gives2_bools point.le _ _ _ _ (ap of_bools (c.le.ensures)) refl refl a.refused a.arguments c.hand_bools.ensures }
+returns c = record { gives2 = gives2 point.le _ _ _ c.related.ensures.answered c.related.ensures.arguments }

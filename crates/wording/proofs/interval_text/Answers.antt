@@ -1,6 +1,6 @@
 -- The start behind a space, and the end behind two points. Assumes nothing.
 use mir.Facts.{to_z-of_z}
-use Rattle.decimal.proofs.Chain.{appends_as, appends_next}
+use Rattle.writer.proofs.Chain.{appends_as, appends_next}
 use Rattle.wording.specs.Texts.{interval_text}
 use Rattle.wording.proofs.interval_text.Goals as goal
 

@@ -1,8 +1,8 @@
 -- Each turn writes one interval more. Assumes nothing.
 use native.Mathlib.Omega.{arith}
 use Rattle.laws.proofs.Machine.{back}
-use Rattle.decimal.proofs.Pairs.{first, second, pair_fits, pair_next, pairs_done}
-use Rattle.decimal.proofs.Partly.{partly_start}
+use Rattle.writer.proofs.Pairs.{first, second, pair_fits, pair_next, pairs_done}
+use Rattle.writer.proofs.Partly.{partly_start}
 use Rattle.wording.proofs.Intervals.{each_listed}
 use Rattle.wording.proofs.interval_texts.Goals as goal
 

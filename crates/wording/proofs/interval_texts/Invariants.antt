@@ -1,4 +1,4 @@
-use Rattle.decimal.proofs.Pairs.{Paired}
+use Rattle.writer.proofs.Pairs.{Paired}
 use Rattle.wording.proofs.Intervals.{listed}
 use Rattle.wording.proofs.interval_texts.Given as goal
 

@@ -1,6 +1,6 @@
 -- The word, the number and LF. Assumes nothing.
 use Rattle.meaning.specs.Listing.{pass_line}
-use Rattle.decimal.proofs.Chain.{appends_next}
+use Rattle.writer.proofs.Chain.{appends_next}
 use Rattle.wording.proofs.pass_line.Goals as goal
 
 pub returns : goal.returns

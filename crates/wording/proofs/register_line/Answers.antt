@@ -1,6 +1,6 @@
 -- The register, its intervals and LF. Assumes nothing.
 use Rattle.meaning.specs.Listing.{register_line}
-use Rattle.decimal.proofs.Chain.{appends_next}
+use Rattle.writer.proofs.Chain.{appends_next}
 use Rattle.wording.proofs.register_line.Goals as goal
 
 pub returns : goal.returns

@@ -2,7 +2,7 @@
 use Rattle.std.proofs.Common.{rules}
 use Rattle.meaning.specs.Interval.{sub_pair}
 use Rattle.number.proofs.Points.{sub_gives}
-use Rattle.slices.proofs.Lent.{wrote_as}
+use Rattle.slices.proofs.Behind.{adds_as}
 use Rattle.interval.proofs.SumRules.{split_is, far_difference}
 use Rattle.interval.proofs.sum.sub_pair.Goals as goal
 
@@ -11,5 +11,5 @@ unfolding sub_pair
 returns c =
     let l = c.args.left in
     let r = c.args.right in
-    wrote_as (split_is _ _ (far_difference l.lo l.hi r.lo r.hi) (sub_gives {x = l.lo} {y = r.hi} (search rules) (search rules) c.sub-u.type_inv c.sub-u.ensures) (sub_gives {x = l.hi} {y = r.lo} (search rules) (search rules) c.sub-v.type_inv c.sub-v.ensures))
+    adds_as (split_is _ _ (far_difference l.lo l.hi r.lo r.hi) (sub_gives {x = l.lo} {y = r.hi} (search rules) (search rules) c.sub-u.type_inv c.sub-u.ensures) (sub_gives {x = l.hi} {y = r.lo} (search rules) (search rules) c.sub-v.type_inv c.sub-v.ensures))
     c.put_split.ensures

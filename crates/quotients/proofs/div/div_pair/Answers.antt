@@ -1,53 +1,65 @@
 -- Without 0 the divisor has a part below it and a part above it, each if there is one; a pair gives at most 12 intervals, so 24 numbers are room enough. Assumes nothing.
-use Rattle.std.proofs.Common.{◌∙◌, sym, pos, negsuc, rules}
-use lib.Signed.{lt_z}
+use Rattle.std.proofs.Common.{sym, rules, arith}
 use Rattle.meaning.specs.Interval.{div_part}
-use Rattle.slices.proofs.Lent.{wrote_as, room_as, two_first, two_second, two_wrote}
-use Rattle.interval.proofs.Cuts.{divisor_is, proper}
-use Rattle.quotients.proofs.DivRules.{pair_cut, pair_plain, div_room}
+use Rattle.slices.specs.Adds.{Adds}
+use Rattle.slices.proofs.Behind.{adds_as, holds_as}
+use Rattle.interval.specs.Part.{of_divisor}
+use Rattle.interval.proofs.Branches.{none_after, divisor_written, divisor_missing}
+use Rattle.interval.proofs.Cuts.{proper}
+use Rattle.quotients.proofs.DivRules.{pair_plain, plain_room, lows_room, highs_room, pair_added}
 use Rattle.quotients.proofs.div.div_pair.Goals as goal
-
-pub div_part_of-below-requires : goal.div_part_of-below-requires
-div_part_of-below-requires c =
-    let s = c.args.left.lo in
-    let e = c.args.left.hi in
-    let t = c.args.right.lo in
-    let f = c.args.right.hi in
-    let h = pair_cut s e t f (sym c.contains.ensures ∙ c.if-contains.true) in
-    room_as (divisor_is (div_part s e) c.negatives.result (lt_z t (pos 0)) t (negsuc 0) c.negatives.ensures) (two_first _ _ h (div_room (proper c.args.left (search rules) (search rules)) (proper c.args.right (search rules) (search rules)) c.requires))
-
-pub div_part_of-above-requires : goal.div_part_of-above-requires
-div_part_of-above-requires c =
-    let s = c.args.left.lo in
-    let e = c.args.left.hi in
-    let t = c.args.right.lo in
-    let f = c.args.right.hi in
-    let h = pair_cut s e t f (sym c.contains.ensures ∙ c.if-contains.true) in
-    let o = div_room (proper c.args.left (search rules) (search rules)) (proper c.args.right (search rules) (search rules)) c.requires in
-    let b = divisor_is (div_part s e) c.negatives.result (lt_z t (pos 0)) t (negsuc 0) c.negatives.ensures in
-    let a = divisor_is (div_part s e) c.positives.result (lt_z (pos 0) f) (pos 1) f c.positives.ensures in
-    room_as a (two_second _ _ h o (wrote_as b c.div_part_of-below.ensures))
+use Rattle.quotients.proofs.div.div_pair.Goals.{in-Some, in_default}
 
 pub div_part-requires : goal.div_part-requires
 div_part-requires c =
-    let l = c.args.left in
-    let r = c.args.right in
-    room_as (pair_plain l.lo l.hi r.lo r.hi (sym c.contains.ensures ∙ c.if-contains.false)) (div_room (proper l (search rules) (search rules)) (proper r (search rules) (search rules)) c.requires)
+    let o = proper c.args.left (search rules) (search rules) in
+    let q = proper c.args.right (search rules) (search rules) in
+    holds_as c.args.out.now (λ j. of_divisor (div_part c.args.left.lo c.args.left.hi) (sym c.in-Some.is j)) (lows_room o q c.contains.ensures c.if-contains.true c.negatives.result c.negatives.ensures c.args.out.now c.requires)
 
-pub returns-then-contains : goal.returns-then-contains
-returns-then-contains c =
-    let s = c.args.left.lo in
-    let e = c.args.left.hi in
-    let t = c.args.right.lo in
-    let f = c.args.right.hi in
-    let h = pair_cut s e t f (sym c.contains.ensures ∙ c.if-contains.true) in
-    let o = div_room (proper c.args.left (search rules) (search rules)) (proper c.args.right (search rules) (search rules)) c.requires in
-    let b = divisor_is (div_part s e) c.negatives.result (lt_z t (pos 0)) t (negsuc 0) c.negatives.ensures in
-    let a = divisor_is (div_part s e) c.positives.result (lt_z (pos 0) f) (pos 1) f c.positives.ensures in
-    two_wrote _ _ h o (wrote_as b c.div_part_of-below.ensures) (wrote_as a c.div_part_of-above.ensures)
+pub div_part-requires-in-Some-positives : goal.div_part-requires-in-Some-positives
+div_part-requires-in-Some-positives c =
+    let o = proper c.args.left (search rules) (search rules) in
+    let q = proper c.args.right (search rules) (search rules) in
+    let g = div_part c.args.left.lo c.args.left.hi in
+    let first : Adds (of_divisor g c.negatives.result) c.match-negatives.out c.args.out.now = elim c.match-negatives.branch [
+      | in-Some w ↦ divisor_written g w.out-is w.in-Some.is w.div_part.ensures
+      | in_default w ↦ divisor_missing g w.out-is w.in_default.is (omega (arith, c.requires))
+    ] in
+    holds_as c.match-negatives.out (λ j. of_divisor g (sym c.in-Some-positives.is j))
+    (highs_room o q c.contains.ensures c.if-contains.true c.negatives.result c.negatives.ensures c.args.out.now c.requires first c.positives.result c.positives.ensures)
+
+pub div_part-requires-else-contains : goal.div_part-requires-else-contains
+div_part-requires-else-contains c =
+    let o = proper c.args.left (search rules) (search rules) in
+    let q = proper c.args.right (search rules) (search rules) in
+    plain_room o q c.contains.ensures c.if-contains.false c.args.out.now c.requires
+
+pub returns-in-Some-positives : goal.returns-in-Some-positives
+returns-in-Some-positives c =
+    let o = proper c.args.left (search rules) (search rules) in
+    let q = proper c.args.right (search rules) (search rules) in
+    let g = div_part c.args.left.lo c.args.left.hi in
+    let first : Adds (of_divisor g c.negatives.result) c.match-negatives.out c.args.out.now = elim c.match-negatives.branch [
+      | in-Some w ↦ divisor_written g w.out-is w.in-Some.is w.div_part.ensures
+      | in_default w ↦ divisor_missing g w.out-is w.in_default.is (omega (arith, c.requires))
+    ] in
+    pair_added o q c.contains.ensures c.if-contains.true c.negatives.result c.negatives.ensures c.args.out.now c.requires first c.positives.result c.positives.ensures
+    (adds_as (λ j. of_divisor g (sym c.in-Some-positives.is j)) c.div_part-in-Some-positives.ensures)
+
+pub returns-in_default-positives : goal.returns-in_default-positives
+returns-in_default-positives c =
+    let o = proper c.args.left (search rules) (search rules) in
+    let q = proper c.args.right (search rules) (search rules) in
+    let g = div_part c.args.left.lo c.args.left.hi in
+    let first : Adds (of_divisor g c.negatives.result) c.match-negatives.out c.args.out.now = elim c.match-negatives.branch [
+      | in-Some w ↦ divisor_written g w.out-is w.in-Some.is w.div_part.ensures
+      | in_default w ↦ divisor_missing g w.out-is w.in_default.is (omega (arith, c.requires))
+    ] in
+    pair_added o q c.contains.ensures c.if-contains.true c.negatives.result c.negatives.ensures c.args.out.now c.requires first c.positives.result c.positives.ensures
+    (adds_as (λ j. of_divisor g (sym c.in_default-positives.is j)) (none_after first))
 
 pub returns-else-contains : goal.returns-else-contains
 returns-else-contains c =
-    let l = c.args.left in
-    let r = c.args.right in
-    wrote_as (pair_plain l.lo l.hi r.lo r.hi (sym c.contains.ensures ∙ c.if-contains.false)) c.div_part.ensures
+    let o = proper c.args.left (search rules) (search rules) in
+    let q = proper c.args.right (search rules) (search rules) in
+    adds_as (pair_plain o q c.contains.ensures c.if-contains.false) c.div_part-else-contains.ensures

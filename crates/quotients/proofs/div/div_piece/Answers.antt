@@ -1,89 +1,72 @@
 -- With MIN in D and −1 in R, D starts at MIN and R ends at −1, so each is left with one part at most; else the case is plain. Assumes nothing.
-use Rattle.std.proofs.Common.{◌∙◌, sym, ◌++◌, ℤ, negsuc, w64, SFits, to_z-of_z, rules}
-use Rattle.std.proofs.Math.IntN.{suc_ℤ, pred_ℤ}
-use lib.Signed.{lt_z}
-use Rattle.meaning.specs.Number.{MIN}
-use Rattle.meaning.specs.Interval.{only, Proper}
-use Rattle.slices.proofs.Lent.{wrote_as, first_room, room_next, wrote_next, room_as, two_first, two_second, two_wrote}
-use Rattle.interval.proofs.Cuts.{room_two, part_is, divisor_is, proper}
+use Rattle.std.proofs.Common.{sym, rules, ℤ, List, arith}
+use Rattle.meaning.specs.Interval as meant
+use Rattle.slices.specs.Adds.{Adds}
+use Rattle.slices.proofs.Behind.{adds_as, holds_as}
+use Rattle.interval.specs.Part.{of_part, of_divisor}
+use Rattle.interval.proofs.Branches.{none_after, part_written, part_missing}
+use Rattle.interval.proofs.Cuts.{proper}
 use Rattle.quotients.specs.Hull.{hull}
-use Rattle.quotients.proofs.DivRules.{start_nonzero, end_nonzero, past_part, short_part, plain_room, past_hull, short_hull, special_piece, plain_piece, plain_hull}
+use Rattle.quotients.proofs.DivRules.{plain_piece, first_room, lefts_room, rights_room, piece_added}
 use Rattle.quotients.proofs.div.div_piece.Goals as goal
+use Rattle.quotients.proofs.div.div_piece.Goals.{in-Some, in_default}
 
-pub put_one-n-requires : goal.put_one-n-requires
-put_one-n-requires c =
-    let l = c.args.left in
-    let r = c.args.right.numbers in
-    let z = c.args.right.no_zero in
-    let P : Proper l.lo l.hi = proper l (search rules) (search rules) in
-    let e = sym c.quotient_wraps.ensures ∙ c.if-quotient_wraps.true in
-    let h = special_piece P r.ordered z e in
-    let o = two_first (only MIN ++ past_part l.hi r.lo r.hi) (short_part l.lo l.hi r.lo) h c.requires in
-    room_two MIN MIN (first_room (only MIN) (past_part l.hi r.lo r.hi) _ o)
+pub put_one-requires : goal.put_one-requires
+put_one-requires c =
+    let o = proper c.args.left (search rules) (search rules) in
+    let d = c.args.right in
+    first_room o d.numbers.ordered d.no_zero c.quotient_wraps.ensures c.if-quotient_wraps.true c.args.out.now c.requires
 
-pub put_hull_of-m-requires : goal.put_hull_of-m-requires
-put_hull_of-m-requires c =
-    let l = c.args.left in
-    let r = c.args.right.numbers in
-    let z = c.args.right.no_zero in
-    let P : Proper l.lo l.hi = proper l (search rules) (search rules) in
-    let e = sym c.quotient_wraps.ensures ∙ c.if-quotient_wraps.true in
-    let h = special_piece P r.ordered z e in
-    let o = two_first (only MIN ++ past_part l.hi r.lo r.hi) (short_part l.lo l.hi r.lo) h c.requires in
-    let L = part_is (λ (x y : ℤ). hull x y r.lo r.hi) c.above.result (lt_z MIN l.hi) (suc_ℤ MIN) l.hi c.above.ensures ∙ past_hull P r.ordered z e in
-    room_as L (room_next c.put_one-n.ensures (past_part l.hi r.lo r.hi) o)
+pub put_plain-requires : goal.put_plain-requires
+put_plain-requires c =
+    let o = proper c.args.left (search rules) (search rules) in
+    let d = c.args.right in
+    holds_as c.put_one.new.out (λ j. of_part (λ x y. hull x y d.numbers.lo d.numbers.hi) (sym c.in-Some.is j)) (lefts_room o d.numbers.ordered d.no_zero c.quotient_wraps.ensures c.if-quotient_wraps.true c.requires c.put_one.ensures c.above.result c.above.ensures)
 
-pub put_hull_of-k-requires : goal.put_hull_of-k-requires
-put_hull_of-k-requires c =
-    let l = c.args.left in
-    let r = c.args.right.numbers in
-    let z = c.args.right.no_zero in
-    let P : Proper l.lo l.hi = proper l (search rules) (search rules) in
-    let e = sym c.quotient_wraps.ensures ∙ c.if-quotient_wraps.true in
-    let h = special_piece P r.ordered z e in
-    let o = two_first (only MIN ++ past_part l.hi r.lo r.hi) (short_part l.lo l.hi r.lo) h c.requires in
-    let L = part_is (λ (x y : ℤ). hull x y r.lo r.hi) c.above.result (lt_z MIN l.hi) (suc_ℤ MIN) l.hi c.above.ensures ∙ past_hull P r.ordered z e in
-    let R = divisor_is (hull l.lo l.hi) c.below.result (lt_z r.lo (negsuc 0)) r.lo (pred_ℤ (negsuc 0)) c.below.ensures ∙ short_hull P r.ordered z e in
-    let W = wrote_next c.put_one-n.ensures o (wrote_as L c.put_hull_of-m.ensures) in
-    room_as R (two_second (only MIN ++ past_part l.hi r.lo r.hi) (short_part l.lo l.hi r.lo) h c.requires W)
+pub put_plain-requires-in-Some-below : goal.put_plain-requires-in-Some-below
+put_plain-requires-in-Some-below c =
+    let o = proper c.args.left (search rules) (search rules) in
+    let d = c.args.right in
+    let g : ℤ → ℤ → List meant.Interval = λ x y. hull x y d.numbers.lo d.numbers.hi in
+    let first : Adds (of_part g c.above.result) c.match-above.out c.put_one.new.out = elim c.match-above.branch [
+      | in-Some w ↦ part_written g w.out-is w.in-Some.is w.put_plain.ensures
+      | in_default w ↦ part_missing g w.out-is w.in_default.is (omega (arith, c.put_one.ensures.ends.count, c.put_one.ensures.ends.room, c.put_one.ensures.ends.long))
+    ] in
+    holds_as c.match-above.out (λ j. of_divisor (hull c.args.left.lo c.args.left.hi) (sym c.in-Some-below.is j))
+    (rights_room o d.numbers.ordered d.no_zero c.quotient_wraps.ensures c.if-quotient_wraps.true c.requires c.put_one.ensures c.above.result c.above.ensures first c.below.result c.below.ensures)
 
-pub put_hull-requires : goal.put_hull-requires
-put_hull-requires c =
-    let l = c.args.left in
-    let r = c.args.right.numbers in
-    let z = c.args.right.no_zero in
-    let P : Proper l.lo l.hi = proper l (search rules) (search rules) in
-    let n = sym c.quotient_wraps.ensures ∙ c.if-quotient_wraps.false in
-    let T : SFits w64 r.lo = search rules in
-    let F : SFits w64 r.hi = search rules in record {
-      start_not_zero = λ x. start_nonzero r.ordered z (sym (to_z-of_z T) ∙ x);
-      end_not_zero = λ x. end_nonzero r.ordered z (sym (to_z-of_z F) ∙ x);
-      room = plain_room l.lo l.hi r.lo r.hi (room_as (plain_piece P r.ordered z n) c.requires);
-    }
+pub put_plain-requires-else-quotient_wraps : goal.put_plain-requires-else-quotient_wraps
+put_plain-requires-else-quotient_wraps c =
+    let o = proper c.args.left (search rules) (search rules) in
+    let d = c.args.right in
+    holds_as c.args.out.now (plain_piece o d.numbers.ordered d.no_zero c.quotient_wraps.ensures c.if-quotient_wraps.false) c.requires
 
-pub returns-then-quotient_wraps : goal.returns-then-quotient_wraps
-returns-then-quotient_wraps c =
-    let l = c.args.left in
-    let r = c.args.right.numbers in
-    let z = c.args.right.no_zero in
-    let P : Proper l.lo l.hi = proper l (search rules) (search rules) in
-    let e = sym c.quotient_wraps.ensures ∙ c.if-quotient_wraps.true in
-    let h = special_piece P r.ordered z e in
-    let o = two_first (only MIN ++ past_part l.hi r.lo r.hi) (short_part l.lo l.hi r.lo) h c.requires in
-    let L = part_is (λ (x y : ℤ). hull x y r.lo r.hi) c.above.result (lt_z MIN l.hi) (suc_ℤ MIN) l.hi c.above.ensures ∙ past_hull P r.ordered z e in
-    let R = divisor_is (hull l.lo l.hi) c.below.result (lt_z r.lo (negsuc 0)) r.lo (pred_ℤ (negsuc 0)) c.below.ensures ∙ short_hull P r.ordered z e in
-    let W = wrote_next c.put_one-n.ensures o (wrote_as L c.put_hull_of-m.ensures) in
-    two_wrote (only MIN ++ past_part l.hi r.lo r.hi) (short_part l.lo l.hi r.lo) h c.requires W (wrote_as R c.put_hull_of-k.ensures)
+pub returns-in-Some-below : goal.returns-in-Some-below
+returns-in-Some-below c =
+    let o = proper c.args.left (search rules) (search rules) in
+    let d = c.args.right in
+    let g : ℤ → ℤ → List meant.Interval = λ x y. hull x y d.numbers.lo d.numbers.hi in
+    let first : Adds (of_part g c.above.result) c.match-above.out c.put_one.new.out = elim c.match-above.branch [
+      | in-Some w ↦ part_written g w.out-is w.in-Some.is w.put_plain.ensures
+      | in_default w ↦ part_missing g w.out-is w.in_default.is (omega (arith, c.put_one.ensures.ends.count, c.put_one.ensures.ends.room, c.put_one.ensures.ends.long))
+    ] in
+    piece_added o d.numbers.ordered d.no_zero c.quotient_wraps.ensures c.if-quotient_wraps.true c.requires c.put_one.ensures c.above.result c.above.ensures first c.below.result c.below.ensures
+    (adds_as (λ j. of_divisor (hull c.args.left.lo c.args.left.hi) (sym c.in-Some-below.is j)) c.put_plain-in-Some-below.ensures)
+
+pub returns-in_default-below : goal.returns-in_default-below
+returns-in_default-below c =
+    let o = proper c.args.left (search rules) (search rules) in
+    let d = c.args.right in
+    let g : ℤ → ℤ → List meant.Interval = λ x y. hull x y d.numbers.lo d.numbers.hi in
+    let first : Adds (of_part g c.above.result) c.match-above.out c.put_one.new.out = elim c.match-above.branch [
+      | in-Some w ↦ part_written g w.out-is w.in-Some.is w.put_plain.ensures
+      | in_default w ↦ part_missing g w.out-is w.in_default.is (omega (arith, c.put_one.ensures.ends.count, c.put_one.ensures.ends.room, c.put_one.ensures.ends.long))
+    ] in
+    piece_added o d.numbers.ordered d.no_zero c.quotient_wraps.ensures c.if-quotient_wraps.true c.requires c.put_one.ensures c.above.result c.above.ensures first c.below.result c.below.ensures
+    (adds_as (λ j. of_divisor (hull c.args.left.lo c.args.left.hi) (sym c.in_default-below.is j)) (none_after first))
 
 pub returns-else-quotient_wraps : goal.returns-else-quotient_wraps
 returns-else-quotient_wraps c =
-    let l = c.args.left in
-    let r = c.args.right.numbers in
-    let z = c.args.right.no_zero in
-    let P : Proper l.lo l.hi = proper l (search rules) (search rules) in
-    let n = sym c.quotient_wraps.ensures ∙ c.if-quotient_wraps.false in
-    let S : SFits w64 l.lo = search rules in
-    let E : SFits w64 l.hi = search rules in
-    let T : SFits w64 r.lo = search rules in
-    let F : SFits w64 r.hi = search rules in
-    wrote_as ((λ i. hull (to_z-of_z S i) (to_z-of_z E i) (to_z-of_z T i) (to_z-of_z F i)) ∙ plain_hull P r.ordered z n) c.put_hull.ensures
+    let o = proper c.args.left (search rules) (search rules) in
+    let d = c.args.right in
+    adds_as (plain_piece o d.numbers.ordered d.no_zero c.quotient_wraps.ensures c.if-quotient_wraps.false) c.put_plain-else-quotient_wraps.ensures

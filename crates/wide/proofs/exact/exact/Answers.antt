@@ -1,10 +1,10 @@
 -- The product has the product of the magnitudes as its magnitude, above the middle for equal signs and below it for different ones. Assumes nothing.
-use Rattle.std.proofs.Common.{◌≡◌, ◌∙◌, ◌+◌, ◌*◌, ◌^◌, ◌≤◌, nat_abs, pos, ap, sym, to_z-of_z}
+use Rattle.std.proofs.Common.{◌≡◌, ◌∙◌, ◌+◌, ◌*◌, ◌^◌, nat_abs, pos, ap, sym, to_z-of_z}
 use mathlib.Core.Bool.{beq}
 use lib.Signed.{lt_z}
 use Rattle.laws.proofs.Machine.{rd}
 use Rattle.wide.proofs.Words.{held_is}
-use Rattle.wide.proofs.Middle.{high_small, is_above, is_below, is_up, is_down}
+use Rattle.wide.proofs.Middle.{is_above, is_below, is_up, is_down}
 use Rattle.wide.proofs.exact.exact.Goals as goal
 use Rattle.wide.proofs.exact.exact.Goals.{After-full-m}
 
@@ -15,18 +15,8 @@ module _ (c : After-full-m) where
       c.full-m.ensures
       ∙ (λ i. (c.unsigned_abs.ensures.value ∙ ap nat_abs (to_z-of_z c.ranges.x)) i * (c.unsigned_abs-2.ensures.value ∙ ap nat_abs (to_z-of_z c.ranges.y)) i)
 
-  high : c.full-m.result.hi ≤ 2 ^ 62
-  high =
-      high_small c.unsigned_abs.result c.unsigned_abs-2.result c.full-m.result.hi c.full-m.result.lo c.unsigned_abs.ensures.bound c.unsigned_abs-2.ensures.bound c.full-m.ensures
-
   signs : beq (lt_z c.args.x (pos 0)) (lt_z c.args.y (pos 0)) ≡ beq (lt_z (rd c.args.x) (pos 0)) (lt_z (rd c.args.y) (pos 0))
   signs i = beq (lt_z (sym (to_z-of_z c.ranges.x) i) (pos 0)) (lt_z (sym (to_z-of_z c.ranges.y) i) (pos 0))
-
-pub above-requires : goal.above-requires
-above-requires c = high c.before
-
-pub below-requires : goal.below-requires
-below-requires c = high c.before
 
 pub returns-then-x-y : goal.returns-then-x-y
 returns-then-x-y c =

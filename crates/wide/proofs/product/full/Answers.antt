@@ -4,36 +4,8 @@
 use mathlib.Core.Path.{◌≡◌, sym, ap, ◌∙◌}
 use Prim.Native.Nat.{ℕ, ◌+◌, ◌*◌, ◌/◌, ◌%◌, ◌^◌, ◌<◌}
 use native.Mathlib.Omega.{arith}
-use Rattle.words.proofs.Halves.{Halves, halves, whole_product, columns}
+use Rattle.words.proofs.Halves.{whole_product, columns}
 use Rattle.wide.proofs.product.full.Goals as goal
-use Rattle.wide.proofs.product.full.Goals.{Start}
-
-facts : (c : Start) → Halves c.args.a c.args.b
-facts c = halves c.args.a c.args.b c.ranges.a.fits c.ranges.b.fits
-
-pub overflow_mul-low : goal.overflow_mul-low
-overflow_mul-low c = omega (arith, facts c)
-
-pub overflow_mul-mid : goal.overflow_mul-mid
-overflow_mul-mid c = omega (arith, facts c)
-
-pub overflow_add-mid : goal.overflow_add-mid
-overflow_add-mid c = omega (arith, facts c)
-
-pub overflow_mul-next : goal.overflow_mul-next
-overflow_mul-next c = omega (arith, facts c)
-
-pub overflow_add-next : goal.overflow_add-next
-overflow_add-next c = omega (arith, facts c)
-
-pub overflow_mul-hi : goal.overflow_mul-hi
-overflow_mul-hi c = omega (arith, facts c)
-
-pub overflow_add-hi : goal.overflow_add-hi
-overflow_add-hi c = omega (arith, facts c)
-
-pub overflow_add-hi-2 : goal.overflow_add-hi-2
-overflow_add-hi-2 c = omega (arith, facts c)
 
 -- the lower word, by the upper one and some lower word
 low_word : (h l n : ℕ) → l < 2 ^ 64 → h * 2 ^ 64 + l ≡ n → h * 2 ^ 64 + n % 2 ^ 64 ≡ n

@@ -1,4 +1,4 @@
--- The ends, and zeros behind them.
+-- The ends, and zeros behind them. Assumes nothing.
 use lib.IntN.{pos}
 use lib.ListN.{length, replicate}
 use lib.Seq.{length-take-le}

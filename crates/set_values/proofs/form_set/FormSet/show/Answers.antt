@@ -1,4 +1,4 @@
--- The count at the front, and the ends behind it.
+-- The count at the front, and the ends behind it. Assumes nothing.
 use mathlib.Core.Path.{◌≡◌, ◌∙◌}
 use Prim.Native.Nat.{ℕ, ◌≤◌}
 use native.Mathlib.Omega.{arith}

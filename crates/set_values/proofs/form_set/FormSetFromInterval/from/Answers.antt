@@ -1,4 +1,4 @@
--- Start and end, as the type has them.
+-- Start and end, as the type has them. Assumes nothing.
 use mathlib.Core.Path.{◌∙◌}
 use Rattle.std.proofs.Common.{rules}
 use Rattle.set_values.proofs.Sets.{span_read, span_few}

@@ -1,4 +1,4 @@
--- The set that is written is the register's.
+-- The set that is written is the register's. Assumes nothing.
 use Rattle.set_values.proofs.Layouts.{give_slots, give_is}
 use Rattle.set_values.proofs.Sets.{held_sized}
 use Rattle.set_values.proofs.registers.Registers.give.Goals as goal

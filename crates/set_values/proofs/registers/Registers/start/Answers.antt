@@ -1,4 +1,4 @@
--- One slot more is that of the set that has every number.
+-- One slot more is that of the set that has every number. Assumes nothing.
 use mathlib.Core.Path.{refl, ap, ◌∙◌}
 use native.Mathlib.Omega.{arith}
 use borrow.Rule.Slice.PartMut.{same_len_mid}

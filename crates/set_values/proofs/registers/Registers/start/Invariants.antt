@@ -1,4 +1,4 @@
--- The slots so far are those of the set that has every number.
+-- The slots so far are those of the set that has every number. Assumes nothing.
 use Rattle.std.proofs.Common.{◌≡◌, ◌*◌, length, take, replicate}
 use Rattle.meaning.specs.Check.{layout, sets_need}
 use Rattle.set_values.specs.Value.{set_of}
