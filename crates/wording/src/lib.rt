@@ -22,17 +22,25 @@ pub fn pass_line(out: &mut Writer<u8>, n: usize)
     out.push(b"\n");
 }
 
-// The one line of a refusal or a finding: its word, its number and its line.
+// The one line of a refusal or a finding: its word, a number and a line.
 #[tactic(auto, unfolding(meaning::specs::Listing::trouble_line))]
+pub fn number_line(out: &mut Writer<u8>, word: &[u8], number: u8, line: usize)
+    requires { Fits (trouble_line word.now number line) out.old }
+    ensures { Appends (trouble_line word.now number line) out.new out.old }
+{
+    out.push(word);
+    push_number(out, number as u64);
+    out.push(b" ");
+    push_number(out, line as u64);
+    out.push(b"\n");
+}
+
+// The same of a cause, by its number in the table.
 pub fn trouble_line(out: &mut Writer<u8>, word: &[u8], cause: Cause, line: usize)
     requires { Fits (trouble_line word.now (number_of cause) line) out.old }
     ensures { Appends (trouble_line word.now (number_of cause) line) out.new out.old }
 {
-    out.push(word);
-    push_number(out, u8::from(cause) as u64);
-    out.push(b" ");
-    push_number(out, line as u64);
-    out.push(b"\n");
+    number_line(out, word, u8::from(cause), line);
 }
 
 // " LO..HI"
