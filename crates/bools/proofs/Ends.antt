@@ -1,6 +1,6 @@
 -- What is asked of a set as a whole, read from its slice of ends. Assumes nothing.
 use mathlib.Core.Path.{◌≡◌, refl, sym, ap, ◌∙◌}
-use mathlib.Core.Bool.{cond}
+use mathlib.Core.Bool.{false, cond, ◌&&◌}
 use mathlib.Core.List.{List, [], ◌∷◌}
 use Rattle.std.specs.Prelude.{None, Some}
 use Prim.Native.Nat.{suc, ◌-◌, ◌/◌, ◌%◌, ◌<◌}
@@ -13,7 +13,7 @@ use Rattle.writer.proofs.Pairs.{first, second, pair_at}
 use lib.IntN.{ℤ, pos}
 use Rattle.meaning.specs.Number.{eq_z}
 use Rattle.meaning.specs.Interval.{Interval}
-use Rattle.meaning.specs.NumberIntervals.{Set, filled, constant, intervals}
+use Rattle.meaning.specs.NumberIntervals.{Set, filled, zero_only, constant, intervals}
 
 pub filled_long : (l : List ℤ) → ltb 1 (length l) ≡ filled (intervals l)
 unfolding intervals
@@ -21,7 +21,23 @@ filled_long [] = refl
 filled_long (s ∷ []) = refl
 filled_long (s ∷ e ∷ r) = lt-ltb 1 (length (s ∷ e ∷ r)) (omega arith)
 
--- ---- a set of just one number
+-- ---- {0}, and a set of just one number
+
+pub zero_not : (l : List ℤ) → (length l / 2 ≡ 1 → ⊥) → zero_only (intervals l) ≡ false
+unfolding intervals
+zero_not [] h = refl
+zero_not (s ∷ []) h = refl
+zero_not (s ∷ e ∷ []) h = absurd (h (omega arith))
+zero_not (s ∷ e ∷ x ∷ []) h = absurd (h (omega arith))
+zero_not (s ∷ e ∷ x ∷ y ∷ r) h = refl
+
+pub zero_one : (l : List ℤ) → length l / 2 ≡ 1 → zero_only (intervals l) ≡ (eq_z (get_or l 0 (pos 0)) (pos 0) && eq_z (get_or l 1 (pos 0)) (pos 0))
+unfolding intervals
+zero_one [] h = absurd (omega arith)
+zero_one (s ∷ []) h = absurd (omega arith)
+zero_one (s ∷ e ∷ []) h = refl
+zero_one (s ∷ e ∷ x ∷ []) h = refl
+zero_one (s ∷ e ∷ x ∷ y ∷ r) h = absurd (omega arith)
 
 pub constant_not : (l : List ℤ) → (length l / 2 ≡ 1 → ⊥) → constant (intervals l) ≡ None
 unfolding intervals

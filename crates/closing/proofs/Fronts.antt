@@ -5,7 +5,7 @@ use mathlib.Core.List.{List, [], ◌∷◌, ◌++◌, append_assoc}
 use Prim.Native.Nat.{ℕ, suc, ◌+◌, ◌-◌, ◌*◌, ◌/◌, ◌%◌, ◌≤◌, ◌<◌}
 use native.Mathlib.Omega.{arith}
 use lib.ListN.{length, get_or, set, take, drop, length-append, length-drop, take-append-drop, drop_of_length-le}
-use lib.Seq.{length-take-le, take-suc, take_at, get_or-drop, get_or_at, set_at, take-append-le, drop-append-le, drop_at, take_all, paste}
+use lib.Seq.{length-take-le, take-suc, take_at, get_or-drop, get_or_at, set_at, take-append-le, drop-append-le, take_all, paste}
 use lib.IntN.{ℤ, pos, suc_ℤ}
 use native.Mathlib.Numerals.{add-one}
 use lib.Signed.{◌<ℤ◌}

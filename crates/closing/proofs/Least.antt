@@ -51,7 +51,7 @@ module _ (p : List ℤ) (e s : ℤ) (even : length p % 2 ≡ 0) where
 
   -- each of the others has more
   module _ (u : at_least (suc g) p ≡ true) where
-    least_beats : beaten p (e ∷ s ∷ []) ≡ true
+    pub least_beats : beaten p (e ∷ s ∷ []) ≡ true
     least_beats = beaten_one p e s ∙ u
 
     pub thin_new : thin (p ++ e ∷ s ∷ []) ≡ p

@@ -30,13 +30,13 @@ use Rattle.cores.proofs.Operations.{few, proper, factor_le, set_is}
 -- ---- how many numbers
 
 -- at most m intervals for each: 2·m numbers
-each_few : (m : ℕ) (g : ℤ → ℤ → List Interval) (l : List ℤ) → AllProper (intervals l) → ((s e : ℤ) → Proper s e → length (g s e) ≤ m) → length (flat (each g (intervals l))) ≤ 2 * m * (length l / 2)
+pub each_few : (m : ℕ) (g : ℤ → ℤ → List Interval) (l : List ℤ) → AllProper (intervals l) → ((s e : ℤ) → Proper s e → length (g s e) ≤ m) → length (flat (each g (intervals l))) ≤ 2 * m * (length l / 2)
 each_few m g l p h =
     let k = length_each Proper m g (intervals l) p h in
     omega (arith, rw (length_intervals l) at k, length_flat (each g (intervals l)))
 
 -- the greatest need
-need_bound : (c n m : ℕ) → c ≤ 32 → n ≤ 16 → m ≤ 16 → c * n * m ≤ 8192
+pub need_bound : (c n m : ℕ) → c ≤ 32 → n ≤ 16 → m ≤ 16 → c * n * m ≤ 8192
 need_bound c n m h k l =
     let a : c * n ≤ 32 * 16 = mul-le-mul h k in
     let b : c * n * m ≤ 32 * 16 * 16 = mul-le-mul a l in
@@ -57,7 +57,7 @@ module _ {x : List Interval} {start done : Writer ℤ} {lent : MutBor (List ℤ)
   long : length (take done.len mid) ≡ done.len
   long = length-take-le done.len mid (omega (arith, ap length e, inside w.ends))
 
-  wrote_pairs : AllProper x → Pairs (take done.len mid)
+  pub wrote_pairs : AllProper x → Pairs (take done.len mid)
   wrote_pairs p = record { even = omega (arith, long, count, length_flat x); proper = rw taken p }
 
   rest : (j : ℕ) → done.len ≤ j → drop j mid ≡ drop j lent.now

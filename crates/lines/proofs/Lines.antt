@@ -13,7 +13,7 @@ use lib.Signed.{lt_z}
 use lib.ListN.{length, get_or, take, drop, length-drop}
 use lib.Seq.{drop-drop, get_or-drop}
 use borrow.Author.Tests.{eq-eqb, ne_eqb, eqb-true, eqb-false}
-use Rattle.std.specs.Prelude.{Option, Some, None, Result, Err}
+use Rattle.std.specs.Prelude.{Option, Some, None, Result, Ok, Err, IfOk}
 use Rattle.meaning.specs.Outcome.{Res, ok, stop}
 use Rattle.meaning.specs.Sheet.{beyond, Form, put, hold, Line, act, far_form, far_act, far_line, crossed_act, crossed_line}
 use Rattle.meaning.specs.Reading.{Got, got, bad, map_got, and_then, byte, closed, begins, literal, register, arg, tree, on_register, bounds, value, act_of, line_of, whole_line, judged, read_line}
@@ -25,7 +25,9 @@ use Rattle.literals.specs.Answer.{got_of, held as value_of}
 use Rattle.literals.specs.declared.Got.{Got as Found}
 use Rattle.literals.proofs.Literals.{found, not_found}
 use Rattle.forms.specs.Answer.{sizes}
-use Rattle.lines.specs.Answer.{ends, ranged, range_from, put_at, put_of}
+use Rattle.lines.specs.Answer.{ends, ranged, range_from, put_at, put_of, Part}
+use Rattle.lines.specs.declared.Line.{Line as Read}
+use Rattle.lines.specs.declared.Line.TheVariants.{In, Put, Hold}
 use Rattle.meaning.specs.Bytes.{bytes}
 use Rattle.laws.proofs.Integers.{cond_case}
 use Rattle.laws.proofs.Fusion.{map_cond, map_any, map_closed, far_arg}
@@ -297,6 +299,13 @@ judged_some (stop k) h = h
 pub refused_some : (s : List ℕ) → read_line s ≡ stop 0 → ⊥
 unfolding read_line
 refused_some s e = judged_some (whole_line s (line_of 7 s)) (whole_some s (line_of 7 s)) e
+
+-- a part of what stands from i on is a part of the whole
+pub part_within : (s : List ℕ) (i : ℕ) {t : List ℕ} → t ≡ drop i s → (x : Result Read Cause) → IfOk x (Part t) → IfOk x (Part s)
+part_within s i e (Ok (In r range)) p = tt
+part_within s i e (Ok (Put r form)) p = (i + p.0, p.1 ∙ ap (drop p.0) e ∙ drop-drop p.0 i s)
+part_within s i e (Ok (Hold r range)) p = tt
+part_within s i e (Err cause) p = tt
 
 -- a put holds a form that can be read
 pub put_reads : (s : List ℕ) (r : ℕ) (t : List ℕ) → put_of r (arg tree 7 t) ≡ read_line s → (e : Form) × (n : ℕ) × (arg tree 7 t ≡ got e n) × (read_line s ≡ ok (act (put r e)))

@@ -1,5 +1,5 @@
 -- What each answer of the code says, in the words of `meaning`. Assumes nothing.
-use Rattle.std.specs.Prelude.{eqb, ℤ, length, get_or, Bool, true, false, ◌&&◌, List, ℕ, ◌+◌, Result, Ok, Err}
+use Rattle.std.specs.Prelude.{◌≡◌, eqb, ℤ, length, get_or, drop, Bool, true, false, ◌&&◌, List, ℕ, ◌+◌, Result, Ok, Err}
 use Prim.Native.Char.{code}
 use Rattle.meaning.specs.Outcome.{Res, ok, stop}
 use Rattle.meaning.specs.Sheet.{Form, put, hold, Line as Read, input, act}
@@ -44,3 +44,9 @@ line_from (Ok (In r range)) = ok (input r range.lo range.hi)
 line_from (Ok (Put r form)) = put_of r (arg tree 7 form.now)
 line_from (Ok (Hold r range)) = ok (act (hold r range.lo range.hi))
 line_from (Err cause) = stop (number_of cause)
+
+-- the form of a put is what the text s has from some place on
+abbrev pub Part : List ℕ → Line → Type 0
+Part s (In r range) = Unit {0}
+Part s (Put r form) = (j : ℕ) × (form.now ≡ drop j s)
+Part s (Hold r range) = Unit {0}

@@ -1,9 +1,9 @@
 // Reading a line of a sheet from its bytes, without its LF: its kind, its register, its range or its form.
 #![tactic(auto)]
 
-ghost use Rattle.std.specs.Prelude.{◌≡◌, ◌+◌, ◌≢◌, List, ℕ, Bool, length, drop, get_or, MatchResult, true, false};
+ghost use Rattle.std.specs.Prelude.{◌≡◌, ◌+◌, ◌≢◌, List, ℕ, Bool, length, drop, get_or, IfOk, MatchResult, true, false};
 ghost use Rattle.meaning.specs.Reading.{on_register, bounds, whole_line, judged, read_line};
-ghost use Rattle.lines.specs.Answer.{ends as ends_at, ranged as ranged_as, range_from, pair_from, line_from, put_at};
+ghost use Rattle.lines.specs.Answer.{ends as ends_at, ranged as ranged_as, range_from, pair_from, line_from, put_at, Part};
 
 use forms::arg;
 use interval::Interval;
@@ -76,8 +76,9 @@ fn ranged(text: &[u8]) -> Result<(usize, Interval), Cause>
 // The register and the form of a put, up to the line's end, where the line is read up to the text.
 #[tactic(auto, using(crate::proofs::Lines::no_register, crate::proofs::Lines::register_no_space, crate::proofs::Lines::register_is, crate::proofs::Lines::left_part, crate::proofs::Lines::put_bad, crate::proofs::Lines::put_unended, crate::proofs::Lines::put_far, crate::proofs::Lines::put_is))]
 fn put(text: &[u8]) -> Result<Line<'_>, Cause>
-    ensures { (line : List ℕ) (i : ℕ) → text.now ≡ drop i line
+    ensures line { (line : List ℕ) (i : ℕ) → text.now ≡ drop i line
         → line_from result ≡ judged (whole_line line (on_register line i (put_at line))) }
+    ensures part { IfOk result (λ put. Part text.now put) }
 {
     let register = read_register(text).ok_or(Cause::Ungrammatical)?;
     let form = after_space(text, register.len)?;
@@ -92,7 +93,8 @@ fn put(text: &[u8]) -> Result<Line<'_>, Cause>
 // The whole line, without its LF.
 #[tactic(auto, using(crate::proofs::Lines::line_in, crate::proofs::Lines::line_put, crate::proofs::Lines::line_hold, crate::proofs::Lines::line_none))]
 pub fn read_line(text: &[u8]) -> Result<Line<'_>, Cause>
-    ensures { line_from result ≡ read_line text.now }
+    ensures line { line_from result ≡ read_line text.now }
+    ensures part { IfOk result (λ line. Part text.now line) }
 {
     if let Some(rest) = text.strip_prefix(b"(in ") {
         let (register, range) = ranged(rest)?;

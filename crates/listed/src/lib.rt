@@ -14,8 +14,8 @@ use limits::{REGISTERS, WORK};
 use lines::{Line, read_line};
 use refusals::Trouble;
 use set_values::{FormSet, Registers};
-use sheet::Lines;
-use sheet_check::check_text;
+use sheet::{Lines, judge_text};
+use sheet_check::check_sheet;
 use writer::Writer;
 
 // What a part writes of a register.
@@ -23,9 +23,9 @@ pub trait RegisterText {
     ghost text: { ℕ → Set → List ℕ };
 
     // Of register r with this set.
-    fn write(out: &mut Writer<u8>, r: usize, set: FormSet)
-        requires { (r < registers) × Fits (text r (set_of set)) out.old }
-        ensures { Appends (text r (set_of set)) out.new out.old };
+    fn write(out: &mut Writer<u8>, r: usize, set: &FormSet)
+        requires { (r < registers) × Fits (text r (set_of set.now)) out.old }
+        ensures { Appends (text r (set_of set.now)) out.new out.old };
 }
 
 // Marks the register of a line's `in` or `put`.
@@ -72,11 +72,13 @@ impl Shown {
         ensures { Told result text.now }
     {
         let mut work = [0i64; WORK];
-        let passed = check_text(text, &mut work)?;
+        let lines = judge_text(text)?;
+        let mut registers = Registers::start();
+        let count = check_sheet(text, lines, &mut registers, &mut work)?;
         Ok(Shown {
-            count: passed.count,
+            count,
             marks: marks_of(text),
-            registers: passed.registers,
+            registers,
         })
     }
 
@@ -94,7 +96,7 @@ impl Shown {
         ensures { Appends (whole T.text self.now) out.new out.old }
     {
         for r in 0..REGISTERS {
-            if let Some(set) = self.set(r) {
+            if let Some(set) = &self.set(r) {
                 T::write(out, r, set);
             }
         }

@@ -21,6 +21,8 @@ use Rattle.laws.proofs.Members.{AllProper, between, normal_proper}
 use Rattle.laws.proofs.Integers.{≤ℤ_trans}
 use Rattle.laws.proofs.Cut.{reads, read_length}
 use Rattle.laws.proofs.CheckSets.{passed_sound}
+use Rattle.writer.specs.declared.Writer.{Writer}
+use Rattle.writer.specs.Written.{Fits}
 use Rattle.listing.specs.Longest.{longest}
 
 -- of an interval, and of a register's line
@@ -57,6 +59,9 @@ trouble_most word k l h =
       decimal_any k,
       decimal_any l,
     )
+
+pub trouble_fits : (word : List ℕ) (k l : ℕ) (w : Writer ℕ) → length word ≤ 8 → w.len + longest ≤ length w.room.now → Fits (trouble_line word k l) w
+trouble_fits word k l w h r = omega (arith, trouble_most word k l h)
 
 -- ---- the lines of a pass
 

@@ -13,7 +13,7 @@ use listed::{RegisterText, Shown};
 use refusals::{Cause, Trouble};
 use set_values::FormSet;
 use wording::{pass_line, register_line, trouble_line};
-use writer::Writer;
+use writer::{Writer, copy};
 
 // No listing is longer: "pass 256" and LF, and for each register a name counted as three bytes, 16 intervals, each of two numbers of up to 20 bytes behind one space and two points, and LF.
 pub const LONGEST: usize = 11081;
@@ -25,7 +25,7 @@ impl RegisterText for RegisterLine {
     ghost text = { register_line };
 
     #[tactic(auto, using(laws::proofs::Flat::intervals_flat))]
-    fn write(out: &mut Writer<u8>, r: usize, set: FormSet) {
+    fn write(out: &mut Writer<u8>, r: usize, set: &FormSet) {
         register_line(out, r, set.ends().set.numbers);
     }
 }
@@ -35,13 +35,15 @@ fn list_into(out: &mut Writer<u8>, text: &[u8])
     requires { out.old.len + longest ≤ length out.old.room.now }
     ensures { Appends (listing text.now) out.new out.old }
 {
-    match Shown::of(text) {
+    match &Shown::of(text) {
         Ok(shown) => {
             pass_line(out, shown.count);
             shown.write::<RegisterLine>(out);
         }
-        Err(Trouble::Stopped(cause, line)) => trouble_line(out, b"stop ", cause, line),
-        Err(Trouble::Refused(cause, line)) => trouble_line(out, b"refused ", cause, line),
+        Err(trouble) => match *trouble {
+            Trouble::Stopped(cause, line) => trouble_line(out, b"stop ", cause, line),
+            Trouble::Refused(cause, line) => trouble_line(out, b"refused ", cause, line),
+        },
     }
 }
 
@@ -53,7 +55,7 @@ fn hand_over(out: &mut [u8], from: &[u8]) -> Result<usize, Trouble>
     if out.len() < n {
         return Err(Trouble::Refused(Cause::NoRoom, 0));
     }
-    out[..n].copy_from_slice(from);
+    copy(&mut out[..n], from);
     Ok(n)
 }
 

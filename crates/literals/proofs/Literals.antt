@@ -2,22 +2,22 @@
 use mathlib.Core.Path.{◌≡◌, refl, sym, ap, ◌∙◌}
 use mathlib.Core.Bool.{Bool, true, false, cond}
 use mathlib.Core.List.{List, [], ◌∷◌}
-use Prim.Native.Nat.{ℕ, zero, suc, ◌+◌, ◌-◌, ◌*◌, ◌^◌, ◌≤◌, ◌<◌, min}
+use Prim.Native.Nat.{ℕ, zero, suc, ◌+◌, ◌-◌, ◌*◌, ◌/◌, ◌^◌, ◌≤◌, ◌<◌, min}
 use Prim.Native.Char.{code}
+use native.Mathlib.Nat.{mul-one, mul_assoc}
 use native.Mathlib.Omega.{arith}
 use lib.Dec.{leb}
-use lib.IntN.{ℤ, pos, neg_ℤ, ◌-ℤ◌, +ℤ_idl}
+use lib.IntN.{ℤ, pos, neg_ℤ}
 use lib.ListN.{length, get_or, take, drop}
-use mir.Syntax.{w64, w128}
-use mir.Val.{SFits, to_z, of_z}
-use mir.Facts.{to_z-of_z}
+use mir.Syntax.{w64}
+use mir.Val.{SFits}
 use borrow.Author.Tests.{eq-eqb, ne_eqb, lt-ltb, le-ltb, leb-true, leb-false}
 use Rattle.std.specs.Prelude.{Option, Some, None, Result, Ok, Err}
 use Rattle.std.specs.Char.{is_ascii_digit}
 use Rattle.std.specs.List.{fold, prefix_len}
 use Rattle.std.proofs.lemmas.List.Folds.{length-prefix_len}
 use Rattle.std.specs.Result.{OkIff, result_ok}
-use Rattle.std.specs.Option.{unwrap_or}
+use Rattle.std.specs.Option.{SomeIff, unwrap_or}
 use Rattle.meaning.specs.Number.{MIN, MAX, within}
 use Rattle.meaning.specs.Sheet.{registers}
 use Rattle.meaning.specs.Reading.{Got, got, bad, map_got, is_digit, digits, number, needless, scale, signed, decimals, unsigned, literal, register_with, register}
@@ -49,6 +49,77 @@ capped_is (d ∷ l) x =
     let e : min cap (min cap x * 10 + (d - 48)) ≡ min cap (x * 10 + (d - 48)) = omega arith in
     ap (λ (y : ℕ). capped y l) e ∙ capped_is l (x * 10 + (d - 48))
 
+-- ---- the scale of 0 to 3 decimals
+
+-- from i decimals on it is ten times that of one more, and from three on it is 1
+pub scale_step : (i : ℕ) → i < 3 → scale i ≡ 10 * scale (i + 1)
+unfolding scale
+scale_step zero h = refl
+scale_step (suc zero) h = refl
+scale_step (suc (suc zero)) h = refl
+scale_step (suc (suc (suc i))) h = absurd (let z : ⊥ = omega arith in z)
+
+pub scale_past : (k : ℕ) → 3 ≤ k → scale k ≡ 1
+unfolding scale
+scale_past k h = let e : 3 - k ≡ 0 = omega arith in rw e
+
+pub scale_few : (k : ℕ) → scale k ≤ 1000
+unfolding scale
+scale_few zero = omega arith
+scale_few (suc zero) = omega arith
+scale_few (suc (suc zero)) = omega arith
+scale_few (suc (suc (suc k))) = let e : 3 - suc (suc (suc k)) ≡ 0 = omega arith in rw e (omega arith)
+
+pub scale_most : (k : ℕ) → scale k ≤ 1000
+scale_most k = scale_few k
+
+-- a loop that has come from d to i decimals, with the factor f
+pub record Scaling (d f i : ℕ) : Type 0 where
+  pub left : f * scale i ≡ scale d
+
+pub scaling_few : {d f i : ℕ} → Scaling d f i → f ≤ 1000
+unfolding scale
+scaling_few {d} {f} {i} s = bound i (omega (arith, s.left, scale_most d))
+  where
+    bound : (i : ℕ) → f * scale i ≤ 1000 → f ≤ 1000
+    bound zero h = omega arith
+    bound (suc zero) h = omega arith
+    bound (suc (suc zero)) h = omega arith
+    bound (suc (suc (suc i))) h = let e : 3 - suc (suc (suc i)) ≡ 0 = omega arith in let h' : f * 1 ≤ 1000 = rw e at h in omega arith
+
+pub scaling_start : (d : ℕ) → Scaling d 1 d
+scaling_start d = record { left = omega arith }
+
+pub scaling_next : {d f i : ℕ} → i < 3 → Scaling d f i → Scaling d (f * 10) (i + 1)
+scaling_next {d} {f} {i} h s = record { left = mul_assoc f 10 (scale (i + 1)) ∙ ap (λ (x : ℕ). f * x) (sym (scale_step i h)) ∙ s.left }
+
+pub scaling_done : {d f i : ℕ} → 3 ≤ i → Scaling d f i → f ≡ scale d
+scaling_done {d} {f} {i} h s = sym (mul-one f) ∙ ap (λ (x : ℕ). f * x) (sym (scale_past i h)) ∙ s.left
+
+pub scale_pos : (k : ℕ) → 0 < scale k
+unfolding scale
+scale_pos zero = omega arith
+scale_pos (suc zero) = omega arith
+scale_pos (suc (suc zero)) = omega arith
+scale_pos (suc (suc (suc zero))) = omega arith
+scale_pos (suc (suc (suc (suc k)))) = let e : 3 - suc (suc (suc (suc k))) ≡ 0 = omega arith in rw e (omega arith)
+
+pub scale_in : (k v : ℕ) → v ≤ cap / scale k → v * scale k ≤ cap
+unfolding scale
+scale_in zero v l = omega arith
+scale_in (suc zero) v l = omega arith
+scale_in (suc (suc zero)) v l = omega arith
+scale_in (suc (suc (suc zero))) v l = omega arith
+scale_in (suc (suc (suc (suc k)))) v l = let e : 3 - suc (suc (suc (suc k))) ≡ 0 = omega arith in let l' : v ≤ cap / 1 = rw e at l in rw e (omega arith)
+
+pub scale_out : (k v : ℕ) → cap / scale k < v → cap ≤ v * scale k
+unfolding scale
+scale_out zero v l = omega arith
+scale_out (suc zero) v l = omega arith
+scale_out (suc (suc zero)) v l = omega arith
+scale_out (suc (suc (suc zero))) v l = omega arith
+scale_out (suc (suc (suc (suc k)))) v l = let e : 3 - suc (suc (suc (suc k))) ≡ 0 = omega arith in let l' : cap / 1 < v = rw e at l in rw e (omega arith)
+
 -- scaling under the cap
 scale_capped : (k x : ℕ) → min cap (min cap x * scale k) ≡ min cap (x * scale k)
 unfolding scale
@@ -58,29 +129,20 @@ scale_capped (suc (suc zero)) x = omega arith
 scale_capped (suc (suc (suc zero))) x = omega arith
 scale_capped (suc (suc (suc (suc k)))) x = let e : 3 - suc (suc (suc (suc k))) ≡ 0 = omega arith in rw e (omega arith)
 
-pub scale_few : (k : ℕ) → scale k ≤ 1000
-unfolding scale
-scale_few zero = omega arith
-scale_few (suc zero) = omega arith
-scale_few (suc (suc zero)) = omega arith
-scale_few (suc (suc (suc k))) = let e : 3 - suc (suc (suc k)) ≡ 0 = omega arith in rw e (omega arith)
-
--- a magnitude and its negative in 128 bits
-pub read_up : (m : ℕ) → m < 2 ^ 64 → to_z w128 (of_z w128 (pos m)) ≡ pos m
-read_up m h = to_z-of_z {w = w128} (record { sfits = omega arith })
-
-pub read_down : (m : ℕ) → m < 2 ^ 64 → to_z w128 (of_z w128 (pos 0 -ℤ to_z w128 (of_z w128 (pos m)))) ≡ neg_ℤ (pos m)
-read_down m h = rw (read_up m h, +ℤ_idl (neg_ℤ (pos m))) (to_z-of_z {w = w128} (fits m h))
-  where
-    fits : (m : ℕ) → m < 2 ^ 64 → SFits w128 (neg_ℤ (pos m))
-    fits zero h = record { sfits = omega arith }
-    fits (suc m) h = record { sfits = omega arith }
-
 -- what a cast to an i64 gives is what the code holds of the number
 pub held_is : {E : Type 0} (z : ℤ) (r : Result ℤ E) → OkIff r (SFits w64 z) z → result_ok r ≡ held z
 unfolding held
 held_is z (Ok x) h = let i = fits_range h.0 in rw (is_within i.above i.below, h.1)
 held_is z (Err x) h =
+    by_test (within MIN z MAX)
+    (λ e. absurd (h (range_fits (from_within MIN z MAX e))))
+    (λ e. rw e)
+
+-- and so is what a difference gives that may be none
+pub held_some : (z : ℤ) (r : Option ℤ) → SomeIff r (SFits w64 z) z → r ≡ held z
+unfolding held
+held_some z (Some x) h = let i = fits_range h.0 in rw (is_within i.above i.below, h.1)
+held_some z None h =
     by_test (within MIN z MAX)
     (λ e. absurd (h (range_fits (from_within MIN z MAX e))))
     (λ e. rw e)

@@ -83,8 +83,11 @@ fn scaled(v: u64, d: usize) -> u64
 fn finish(negated: bool, m: u64) -> Option<i64>
     ensures { result ≡ held (signed negated m) }
 {
-    let magnitude = i128::from(m);
-    i64::try_from(if negated { -magnitude } else { magnitude }).ok()
+    if negated {
+        0i64.checked_sub_unsigned(m)
+    } else {
+        i64::try_from(m).ok()
+    }
 }
 
 // The first of i digits is a needless 0.

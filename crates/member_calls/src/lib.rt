@@ -3,7 +3,10 @@
 // Kept: a function for each operation, since C, Rust and Python call each by a name of its own; what they share is `accept_both` and `hand_out`.
 #![tactic(auto)]
 
+ghost use Rattle.std.specs.Prelude.{◌≡◌};
 ghost use Rattle.meaning.specs.Promises.{Unites, Meets};
+ghost use Rattle.meaning.specs.SetCalls.{refusal2};
+ghost use Rattle.sets.specs.Sets.{Argument};
 ghost use Rattle.replies.specs.Returning.{returned};
 
 use refusals::Cause;
@@ -13,6 +16,7 @@ use writer::Writer;
 // The set of the members of either.
 pub fn union(left: &[i64], right: &[i64], out: &mut [i64]) -> Result<Written, Cause>
     ensures unites { Unites left.now right.now out.old (returned result) out.new }
+    ensures arguments { (refusal2 left.now right.now ≡ 0 → Argument left.now × Argument right.now) }
 {
     let (left, right) = accept_both(left, right)?;
     let mut ends = [0i64; 64];
@@ -24,6 +28,7 @@ pub fn union(left: &[i64], right: &[i64], out: &mut [i64]) -> Result<Written, Ca
 // Kept: room, writer and end in three lines, as in `hand_bools` and `within`: a function that takes what is written as a closure would be no shorter at its calls.
 pub fn intersect(left: &[i64], right: &[i64], out: &mut [i64]) -> Result<Written, Cause>
     ensures meets { Meets left.now right.now out.old (returned result) out.new }
+    ensures arguments { (refusal2 left.now right.now ≡ 0 → Argument left.now × Argument right.now) }
 {
     let (left, right) = accept_both(left, right)?;
     let mut ends = [0i64; 64];

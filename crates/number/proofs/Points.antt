@@ -1,10 +1,23 @@
--- The numbers beside a number, and a sum and a difference as the machine hands them on. Assumes nothing.
-use Rattle.std.proofs.Common.{◌≡◌, ◌^◌, ◌<◌, ℤ, pos, ◌+ℤ◌, ◌-ℤ◌, ◌∙◌, to_z-of_z, w64, SFits}
+-- Magnitudes, remainders by −1, the numbers beside a number, and a sum and a difference as the machine hands them on. Assumes nothing.
+use Rattle.std.proofs.Common.{◌≡◌, ◌^◌, ◌<◌, ℤ, pos, negsuc, ◌+ℤ◌, ◌-ℤ◌, ◌<ℤ◌, sym, refl, ap, ◌∙◌, to_z-of_z, w64, SFits}
 use lib.IntN.{suc_ℤ, pred_ℤ}
-use lib.Signed.{mag}
-use Rattle.meaning.specs.Number.{wrap, sum, difference}
-use Rattle.laws.proofs.Integers.{zarith, add_parts, sub_parts, suc_parts, pred_parts}
+use lib.Signed.{mag, rem_z}
+use Rattle.meaning.specs.Number.{wrap, negative, absolute, sum, difference}
+use Rattle.laws.proofs.Integers.{zarith, add_parts, sub_parts, suc_parts, pred_parts, up_rem, down_rem}
 use Rattle.laws.proofs.Machine.{rd, ok}
+
+-- the magnitude of a number below 0
+pub abs_neg : {x : ℤ} → x <ℤ pos 0 → negative x ≡ absolute x
+unfolding negative absolute
+abs_neg {x = pos n} h = omega zarith
+abs_neg {x = negsuc n} h = refl
+
+-- by −1
+pub rem_minus : (x : ℤ) {y : ℤ} → y ≡ negsuc 0 → pos 0 ≡ rem_z x y
+rem_minus x {y} e = at x ∙ ap (rem_z x) (sym e)
+  where
+    at : (x : ℤ) → pos 0 ≡ rem_z x (negsuc 0)
+    at x = omega (zarith, up_rem x (negsuc 0), down_rem x (negsuc 0))
 
 -- the numbers beside x
 pub add_one_is : (x : ℤ) → x +ℤ pos 1 ≡ suc_ℤ x

@@ -29,7 +29,7 @@ lines_of r s = rows_text (set_rows r s)
 
 -- ---- the text of all rows
 
-text_append : (a b : List Row) → rows_text (a ++ b) ≡ rows_text a ++ rows_text b
+pub text_append : (a b : List Row) → rows_text (a ++ b) ≡ rows_text a ++ rows_text b
 unfolding rows_text
 text_append [] b = refl
 text_append (w ∷ a) b = ap (λ (l : List ℕ). row_line w ++ LF ∷ l) (text_append a b) ∙ sym (append_assoc (row_line w) (LF ∷ rows_text a) (rows_text b))

@@ -25,7 +25,7 @@ struct RegisterLines;
 impl RegisterText for RegisterLines {
     ghost text = { λ r s. rows_text (set_rows r s) };
 
-    fn write(out: &mut Writer<u8>, r: usize, set: FormSet) {
+    fn write(out: &mut Writer<u8>, r: usize, set: &FormSet) {
         register_lines(out, r, set.ends().set.numbers);
     }
 }
@@ -36,7 +36,7 @@ fn count_lines(shown: &Shown) -> usize
 {
     let mut n = 0;
     for r in 0..REGISTERS {
-        if let Some(set) = shown.set(r) {
+        if let Some(set) = &shown.set(r) {
             n += set.ends().set.numbers.len() / 2;
         }
     }
@@ -47,8 +47,12 @@ fn count_lines(shown: &Shown) -> usize
 pub fn page(sheet: &[u8], out: &mut [u8]) -> Result<usize, Trouble>
     ensures { Writes (page sheet.now) out.old result out.new }
 {
-    let shown = Shown::of(sheet)?;
-    let lines = count_lines(&shown);
+    let whole = Shown::of(sheet);
+    let shown = match &whole {
+        Ok(shown) => shown,
+        Err(trouble) => return Err(*trouble),
+    };
+    let lines = count_lines(shown);
     if out.len() < ROW * lines {
         return Err(Trouble::Refused(Cause::NoRoom, 0));
     }

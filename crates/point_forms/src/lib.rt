@@ -69,13 +69,18 @@ impl Algebra for Values<'_> {
     }
 
     #[tactic(auto, unfolding(crate::specs::Answer::with1, meaning::specs::Outcome::bind))]
-    fn one(&mut self, op: Op1, a: Result<i64, Cause>) -> Result<i64, Cause> {
-        Ok(unary(op, a?))
+    fn one(&mut self, op: Op1, a: &Result<i64, Cause>) -> Result<i64, Cause> {
+        Ok(unary(op, (*a)?))
     }
 
     // The left argument's trouble comes first.
     #[tactic(auto, unfolding(crate::specs::Answer::with2, meaning::specs::Outcome::bind))]
-    fn two(&mut self, op: Op2, a: Result<i64, Cause>, b: Result<i64, Cause>) -> Result<i64, Cause> {
-        binary(op, a?, b?).ok_or(Cause::ZeroDivisor)
+    fn two(
+        &mut self,
+        op: Op2,
+        a: &Result<i64, Cause>,
+        b: &Result<i64, Cause>,
+    ) -> Result<i64, Cause> {
+        binary(op, (*a)?, (*b)?).ok_or(Cause::ZeroDivisor)
     }
 }

@@ -17,6 +17,7 @@ use Rattle.meaning.specs.Interval.{Interval, span, only, Proper, each, without, 
 use Rattle.laws.proofs.Wrapping.{wrap_id}
 use Rattle.laws.proofs.Machine.{rd, range_fits}
 use Rattle.laws.proofs.Integers.{zarith, ≤ℤ_trans, and_both, from_within, if_yes, if_no}
+use Rattle.meaning.specs.NumberIntervals.{flat}
 use Rattle.laws.proofs.Flat.{length_flat}
 use Rattle.laws.proofs.Members.{AllProper}
 use Rattle.laws.proofs.Parts.{without_none, low_part, high_part, one_sign, ends_at_minus_one}
@@ -31,14 +32,14 @@ use Rattle.interval.proofs.Cuts.{each_cut, each_single, part_is, divisor_is}
 use Rattle.quotients.specs.Hull.{wrapped_quotient, hull}
 
 -- the ends of an interval from MIN to MAX
-start_fits : {a b : ℤ} → Proper a b → SFits w64 a
+pub start_fits : {a b : ℤ} → Proper a b → SFits w64 a
 start_fits o = range_fits (record { above = o.low; below = ≤ℤ_trans o.ordered o.high })
 
-end_fits : {a b : ℤ} → Proper a b → SFits w64 b
+pub end_fits : {a b : ℤ} → Proper a b → SFits w64 b
 end_fits o = range_fits (record { above = ≤ℤ_trans o.low o.ordered; below = o.high })
 
 -- MIN + 1
-abbrev AFTER : ℤ
+abbrev pub AFTER : ℤ
 AFTER = negsuc 9223372036854775806
 
 -- ---- the hull of corner quotients
@@ -47,8 +48,13 @@ pub hull_room : (a b t f : ℤ) (w : Writer ℤ) → Holds (hull a b t f) w → 
 unfolding hull
 hull_room a b t f w h = room_two (least_corner wrapped_quotient a b t f) (greatest_corner wrapped_quotient a b t f) w h
 
+-- a hull is one interval, so room for one is room for any
+pub any_hull : (a b t f s e g h : ℤ) (w : Writer ℤ) → Holds (hull a b t f) w → Holds (hull s e g h) w
+unfolding hull flat
+any_hull a b t f s e g h w k = k
+
 -- in a plain case each corner quotient fits, so it is its own wrapped value
-hull_plain : {s e t f : ℤ} → Plain s e t f → hull s e t f ≡ div_plain s e t f
+pub hull_plain : {s e t f : ℤ} → Plain s e t f → hull s e t f ≡ div_plain s e t f
 unfolding hull least_corner greatest_corner
 hull_plain {s} {e} {t} {f} p =
     let a = wrap_id (quot_z s t) (plain_fits p (start_left p) (start_right p)) in

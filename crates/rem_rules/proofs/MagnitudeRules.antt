@@ -64,7 +64,7 @@ Read s e l g = (l ≡ least_magnitude (rd s) (rd e)) × (g ≡ greatest_magnitud
 read_are : {s e : ℤ} {l g : ℕ} → SFits w64 s → SFits w64 e → Read s e l g → (l ≡ least_magnitude s e) × (g ≡ greatest_magnitude s e)
 read_are f h r = (r.0 ∙ (λ i. least_magnitude (to_z-of_z f i) (to_z-of_z h i)), r.1 ∙ (λ i. greatest_magnitude (to_z-of_z f i) (to_z-of_z h i)))
 
-under_is : (d : ℕ) → 0 < d → neg_ℤ (pos (d - 1)) ≡ pos 1 -ℤ pos d
+pub under_is : (d : ℕ) → 0 < d → neg_ℤ (pos (d - 1)) ≡ pos 1 -ℤ pos d
 under_is d h = omega (zarith, up_neg (pos (d - 1)), down_neg (pos (d - 1)), sub_parts (pos 1) (pos d))
 
 -- those of a divisor's ends

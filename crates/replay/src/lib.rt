@@ -2,7 +2,7 @@
 // promises at most whether there is room for it.
 #![tactic(auto)]
 
-ghost use Rattle.std.specs.Prelude.{◌≡◌, ◌≤◌, leb, length, is_some, IfSome, OnSome, None};
+ghost use Rattle.std.specs.Prelude.{◌≡◌, ◌≤◌, ◌↔◌, IsTrue, leb, length, is_some, IfSome, OnSome, None};
 ghost use Rattle.replay.specs.Numbered.{ReadsNumber};
 ghost use Rattle.replay.specs.Tallied.{tallied};
 
@@ -16,6 +16,22 @@ pub const ROOM: usize = 8256;
 // More cases than a file has: a proved loop has to end, and nothing says that a file does.
 const CASES: u64 = 1000000;
 
+// Reads until b is full, the file ends or a read fails, and returns how many bytes it put at the front of b.
+// Kept: a loop over `read`, since `read_exact` says nothing of the bytes that stand before the end of a file.
+pub fn read_full<F: Read>(file: &mut F, b: &mut [u8]) -> usize
+    ensures { result ≤ length b.new }
+{
+    let mut at = 0;
+    while at < b.len() {
+        match file.read(&mut b[at..]) {
+            Ok(0) => return at,
+            Ok(n) => at += n,
+            Err(_) => return at,
+        }
+    }
+    at
+}
+
 // The next number of the file; none if the file ends before the last of its bytes.
 pub fn next_number<F: Read>(file: &mut F) -> Option<i64>
     ensures { ReadsNumber (F.remaining file.old) (F.remaining file.new) result }
@@ -25,10 +41,12 @@ pub fn next_number<F: Read>(file: &mut F) -> Option<i64>
     Some(stored::number_in(&bytes))
 }
 
-// The next number of the file; 0 past its end.
-// Kept: a 0 in place of an option, since a public function that could not fail still cannot; `next_number` can.
+// The next number of the file; bytes past its end read as 0.
+// Kept: no option, since a public function that could not fail still cannot; `next_number` can.
 pub fn read_number<F: Read>(file: &mut F) -> i64 {
-    next_number(file).unwrap_or(0)
+    let mut bytes = [0u8; 8];
+    read_full(file, &mut bytes);
+    stored::number_in(&bytes)
 }
 
 // As many numbers of the file as s has places.
@@ -64,6 +82,13 @@ pub fn read_bytes<'a, F: Read>(file: &mut F, s: &'a mut [u8], n: usize) -> Optio
     Some(bytes)
 }
 
+// Whether a and b hold the same numbers.
+pub fn same(a: &[i64], b: &[i64]) -> bool
+    ensures { IsTrue result ↔ (a.now ≡ b.now) }
+{
+    a == b
+}
+
 // How many cases were replayed, how many of them differ, and the number of the first that does, counted from 1.
 #[derive(Clone, Copy, Debug, Default, PartialEq, Eq)]
 pub struct Tally {
@@ -87,8 +112,10 @@ impl Tally {
     {
         self.cases = self.cases.saturating_add(1);
         if !agrees {
+            if self.differ == 0 {
+                self.first = Some(self.cases);
+            }
             self.differ = self.differ.saturating_add(1);
-            self.first = self.first.or(Some(self.cases));
         }
         self
     }
@@ -118,14 +145,15 @@ pub fn replay_cases<F: Read, C, N: Fn(&mut F) -> Option<C>, A: Fn(&mut F, C) -> 
 // Writes "NAME CASES ok", or "NAME CASES differ: N, the first is K", and the end of the line. What cannot be written is left out.
 pub fn report<R: Print>(rt: &R, name: &[u8], tally: Tally) {
     let _ = rt.write_all(name);
-    let _ = match tally.first {
-        None => println!(rt; " {} ok", tally.cases),
-        Some(first) => {
-            println!(rt;
-                " {} differ: {}, the first is {first}",
-                tally.cases, tally.differ
-            )
-        }
+    let _ = if tally.differ == 0 {
+        println!(rt; " {} ok", tally.cases)
+    } else {
+        println!(rt;
+            " {} differ: {}, the first is {}",
+            tally.cases,
+            tally.differ,
+            tally.first.unwrap_or(0)
+        )
     };
 }
 

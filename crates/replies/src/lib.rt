@@ -12,6 +12,7 @@ ghost use Rattle.replies.specs.Returning.{returned};
 use limits::ENDS;
 use refusals::Cause;
 use sets::{Ends, Operand, is_normal};
+use writer::copy;
 
 // How many numbers of an answer were written, and its flag.
 // Kept: the flag beside the count, since it is part of the answer, and no sign of a missing one.
@@ -21,8 +22,7 @@ pub struct Written {
     pub flag: bool,
 }
 
-// Refuses a set of over 16 intervals, and then one that is not normal. Out of line, so that the loop over the set has its registers for itself.
-#[inline(never)]
+// Refuses a set of over 16 intervals, and then one that is not normal.
 #[tactic(auto, unfolding(meaning::specs::SetCalls::refusal))]
 fn judged(s: &[i64]) -> Result<(), Cause>
     ensures refused { code_of result ≡ call.refusal s.now }
@@ -39,6 +39,7 @@ fn judged(s: &[i64]) -> Result<(), Cause>
 
 // The operand that a set is, if it is not refused.
 // Kept: a function and no TryFrom, which would have to stand beside `Operand`, in a crate that knows no refusals.
+#[inline]
 pub fn accept(s: &[i64]) -> Result<Operand, Cause>
     ensures refused { code_of result ≡ call.refusal s.now }
     ensures same { IfOk result (λ operand. operand.set.numbers.now ≡ s.now) }
@@ -50,6 +51,7 @@ pub fn accept(s: &[i64]) -> Result<Operand, Cause>
 }
 
 // The operands that two sets are; the left set is refused before the right set.
+#[inline]
 #[tactic(auto, using(refusals::proofs::Rows::number_not_zero), unfolding(meaning::specs::SetCalls::refusal2))]
 pub fn accept_both<'a>(
     left: &'a [i64],
@@ -79,7 +81,7 @@ pub fn hand_out(out: &mut [i64], ends: &[i64], flag: bool) -> Result<Written, Ca
     if out.len() < count {
         return Err(Cause::NoRoom);
     }
-    out[..count].copy_from_slice(ends);
+    copy(&mut out[..count], ends);
     Ok(Written { count, flag })
 }
 

@@ -125,7 +125,7 @@ module _ (t : List ℕ) (lent : List ℤ) where
   unfolding run_call
   ran_short h e = ran_is (refused 3 0) (rw (lt-ltb (length lent) registers h)) (ap ending_of e) refl (λ n o q. not_worked q)
 
-  call_text : registers ≤ length lent → run_call t lent ≡ run_text lent t
+  pub call_text : registers ≤ length lent → run_call t lent ≡ run_text lent t
   unfolding run_call
   call_text h = rw (le-ltb (length lent) registers h)
 

@@ -15,9 +15,10 @@ use refusals::Cause;
 use replies::{Written, accept_both, finish, hand_out, need};
 use writer::Writer;
 
-// The answer joins the results of all pairs: a refused argument, too little work, or the answer handed out.
+// The answer joins the results of all pairs: a refused argument, too little work, or the answer handed out. Inlined, so that its answer is not moved once more.
 // Kept: the operation by its name, since the check reads it from a text and the core serves both.
 // Kept: operation, left set, flag and right set each by itself: seven calls would make the struct of the four that is taken apart here.
+#[inline(always)]
 pub fn joined(
     op: Op,
     left: &[i64],
@@ -55,7 +56,8 @@ pub fn hand_bools(out: &mut [i64], may: BoolInterval) -> Result<Written, Cause>
     hand_out(out, set.written(), false)
 }
 
-// What the relation may give of two members, handed out: a refused argument, or 0, 1000 or both.
+// What the relation may give of two members, handed out: a refused argument, or 0, 1000 or both. Inlined as `joined` is.
+#[inline(always)]
 pub fn related(op: Relation, left: &[i64], right: &[i64], out: &mut [i64]) -> Result<Written, Cause>
     ensures answered { Handed (refused2 left.now right.now) (need2 (factor2 (op2_of op)) left.now right.now)
         (set2 (op2_of op) (intervals left.now) (intervals right.now)) (flag2 (op2_of op) false (intervals left.now) (intervals right.now))

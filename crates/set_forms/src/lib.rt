@@ -38,19 +38,17 @@ impl Algebra for Sets<'_> {
         Ok(self.registers.set(r))
     }
 
-    #[tactic(auto, unfolding(set_values::specs::Value::answer1, meaning::specs::Outcome::bind))]
-    fn one(&mut self, op: Op1, a: Result<FormSet, Cause>) -> Result<FormSet, Cause> {
-        apply1(op, a?, self.work)
+    fn one(&mut self, op: Op1, a: &Result<FormSet, Cause>) -> Result<FormSet, Cause> {
+        apply1(op, a, self.work)
     }
 
     // The left argument's trouble comes first.
-    #[tactic(auto, unfolding(set_values::specs::Value::answer2, meaning::specs::Outcome::bind))]
     fn two(
         &mut self,
         op: Op2,
-        a: Result<FormSet, Cause>,
-        b: Result<FormSet, Cause>,
+        a: &Result<FormSet, Cause>,
+        b: &Result<FormSet, Cause>,
     ) -> Result<FormSet, Cause> {
-        apply2(op, a?, b?, self.work)
+        apply2(op, a, b, self.work)
     }
 }

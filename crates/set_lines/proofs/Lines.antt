@@ -32,7 +32,7 @@ use Rattle.set_lines.specs.Worked.{hold_number, line_check, line_left}
 
 -- ---- the set of a form
 
-kept_same : (z : ℤ) → InRange z → kept z ≡ z
+pub kept_same : (z : ℤ) → InRange z → kept z ≡ z
 unfolding kept
 kept_same z h = let e : beyond z ≡ false = ap not (between_within h) in rw e
 

@@ -36,8 +36,8 @@ fn inside(ends: &[i64], bounds: Interval) -> bool
 }
 
 // A hold is broken if its register's set has a value outside the bounds.
-fn hold(set: FormSet, bounds: Interval) -> Result<(), Cause>
-    ensures { code_of result ≡ hold_number (inside_of bounds.lo (set_of set) bounds.hi) }
+fn hold(set: &FormSet, bounds: Interval) -> Result<(), Cause>
+    ensures { code_of result ≡ hold_number (inside_of bounds.lo (set_of set.now) bounds.hi) }
 {
     if inside(set.ends().set.numbers, bounds) {
         Ok(())
@@ -56,14 +56,18 @@ pub fn check_line(
 {
     match read_line(text)? {
         Line::In(r, interval) => {
-            registers.give(r, FormSet::from(interval));
+            registers.give(r, &FormSet::from(interval));
             Ok(())
         }
         Line::Put(r, form) => {
-            let value = value(form, &mut Sets { registers, work })?;
-            registers.give(r, value);
+            let value = value(form, &mut Sets { registers, work });
+            let set = match &value {
+                Ok(set) => set,
+                Err(cause) => return Err(*cause),
+            };
+            registers.give(r, set);
             Ok(())
         }
-        Line::Hold(r, bounds) => hold(registers.set(r), bounds),
+        Line::Hold(r, bounds) => hold(&registers.set(r), bounds),
     }
 }

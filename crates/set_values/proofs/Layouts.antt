@@ -9,19 +9,21 @@ use mir.Facts.{to_z-of_z}
 use Rattle.laws.proofs.Machine.{rd}
 use lib.ListN.{length, get_or, set, take, drop, replicate, length-replicate, replicate-append-replicate}
 use Rattle.std.specs.Prelude.{slice_index_or, slice_set}
-use lib.Seq.{take_all, take_at, drop_at, drop-cons, drop-length}
+use lib.Seq.{set_at, take_at, drop_at, drop-cons, drop-length}
+use native.Mathlib.Numerals.{add-one}
+use Rattle.laws.proofs.Integers.{zarith}
+use Rattle.meaning.specs.Number.{MIN, MAX}
 use borrow.Rule.Slice.PartMut.{mid_of, put_mid}
 use Rattle.std.proofs.lemmas.List.{length-append, set_split, take-append-drop, length-set}
-use Rattle.std.proofs.lemmas.Slice.{take-put_mid}
 use Rattle.meaning.specs.Lists.{All}
-use Rattle.meaning.specs.Interval.{only}
+use Rattle.meaning.specs.Interval.{only, span}
 use Rattle.meaning.specs.NumberIntervals.{Set, flat}
 use Rattle.meaning.specs.Sheet.{registers}
-use Rattle.meaning.specs.Check.{at, slot, layout, sets_need}
+use Rattle.meaning.specs.Check.{at, slot, layout, sets_need, start_sets}
 use Rattle.laws.proofs.CheckSets.{zero_normal}
 use Rattle.laws.proofs.All.{all_from, all_get, all_map, all_set, all_replicate}
 use Rattle.laws.proofs.Flat.{length_flat}
-use Rattle.laws.proofs.Slots.{Short, length_slot, layout_back}
+use Rattle.laws.proofs.Slots.{Short, length_slot, length_layout, layout_back}
 use Rattle.set_values.specs.Held.{padded, shown, Held}
 use Rattle.set_values.specs.Slots.{sets_in, Sized, Slots}
 
@@ -135,25 +137,72 @@ held_slot h = λ i. pos (h.counted i) ∷ h.is i
 
 -- ---- the start
 
--- the numbers so far are the slots of one set
-pub start_more : (s : Set) (r : ℕ) (l new : List ℤ) → Sized s → take (33 * r) l ≡ layout (replicate r s) → 33 * r + 33 ≤ length l → new ≡ slot s
-    → take (33 * (r + 1)) (with_slot r l new) ≡ layout (replicate (r + 1) s)
-unfolding layout
-start_more s r l new z e b n =
-    take-put_mid (33 * r) (33 * (r + 1) - 33 * r) l new (33 * (r + 1)) (omega (arith, ap length n, length_slot s z.few)) (omega arith)
-    ∙ (λ i. e i ++ (n ∙ sym (append-nil (slot s))) i)
-    ∙ sym (layout_append (replicate r s) (s ∷ []))
-    ∙ ap layout (replicate-append-replicate r 1 s)
+abbrev zeros : ℕ → List ℤ
+zeros n = replicate n (pos 0)
 
-module _ {s : Set} (z : Sized s) {r : ℕ} (l : List ℤ) (n : length l ≡ sets_need) (m : r ≡ registers) (e : take (33 * r) l ≡ layout (replicate r s)) where
-  started : l ≡ layout (replicate registers s)
-  started = sym (take_all (33 * r) l (omega arith)) ∙ e ∙ ap (λ (r : ℕ). layout (replicate r s)) m
+abbrev any : Set
+any = span MIN MAX
+
+-- the first r registers may hold any number, and the numbers behind them are still 0
+abbrev pub started : ℕ → List ℤ
+started r = layout (replicate r any) ++ zeros (sets_need - 33 * r)
+
+any_sized : Sized any
+any_sized = record { normal = (record { low = omega zarith; ordered = omega zarith; high = omega zarith }, tt, tt); filled = omega arith; few = omega arith }
+
+short_start : (r : ℕ) → length (layout (replicate r any)) ≡ r * 33
+short_start r = length_layout (replicate r any) (all_replicate Short r any (omega arith)) ∙ ap (λ (n : ℕ). n * 33) (length-replicate r any)
+
+-- one slot more at the end is one more at the front
+slot_last : (r : ℕ) (l : List ℤ) → layout (replicate r any) ++ (slot any ++ l) ≡ layout (replicate (suc r) any) ++ l
+unfolding layout
+slot_last zero l = ap (λ (x : List ℤ). x ++ l) (sym (append-nil (slot any)))
+slot_last (suc r) l =
+    append_assoc (slot any) (layout (replicate r any)) (slot any ++ l)
+    ∙ ap (λ (x : List ℤ). slot any ++ x) (slot_last r l)
+    ∙ sym (append_assoc (slot any) (layout (replicate (suc r) any)) l)
+
+slot_any : (l : List ℤ) → slot any ++ l ≡ pos 1 ∷ MIN ∷ MAX ∷ (zeros 30 ++ l)
+unfolding slot flat
+slot_any l = refl
+
+-- a store behind two parts
+set_behind : (l p : List ℤ) (x : ℤ) (r : List ℤ) (a : ℤ) (n : ℕ) → length l + length p ≡ n → set (l ++ (p ++ (x ∷ r))) n a ≡ l ++ (p ++ (a ∷ r))
+set_behind l p x r a n h = ap (λ (q : List ℤ). set q n a) (sym (append_assoc l p (x ∷ r))) ∙ set_at (l ++ p) x r a n (length-append l p ∙ h) ∙ append_assoc l p (a ∷ r)
+
+pub start_more : (r : ℕ) → r < registers → set (set (set (started r) (33 * r) (pos 1)) (33 * r + 1) MIN) (33 * r + 2) MAX ≡ started (r + 1)
+start_more r h =
+    let n : sets_need - 33 * r ≡ 33 + (sets_need - 33 * (r + 1)) = omega arith in
+    let f = layout (replicate r any) in
+    let z = zeros (sets_need - 33 * (r + 1)) in
+    let e : zeros (sets_need - 33 * r) ≡ pos 0 ∷ pos 0 ∷ pos 0 ∷ (zeros 30 ++ z) = ap zeros n ∙ sym (replicate-append-replicate 33 (sets_need - 33 * (r + 1)) (pos 0)) in
+    let s = short_start r in
+    ap (λ (l : List ℤ). set (set (set (f ++ l) (33 * r) (pos 1)) (33 * r + 1) MIN) (33 * r + 2) MAX) e
+    ∙ ap (λ (l : List ℤ). set (set l (33 * r + 1) MIN) (33 * r + 2) MAX) (set_behind f [] (pos 0) (pos 0 ∷ pos 0 ∷ (zeros 30 ++ z)) (pos 1) (33 * r) (omega (arith, s)))
+    ∙ ap (λ (l : List ℤ). set l (33 * r + 2) MAX) (set_behind f (pos 1 ∷ []) (pos 0) (pos 0 ∷ (zeros 30 ++ z)) MIN (33 * r + 1) (omega (arith, s)))
+    ∙ set_behind f (pos 1 ∷ MIN ∷ []) (pos 0) (zeros 30 ++ z) MAX (33 * r + 2) (omega (arith, s))
+    ∙ ap (λ (l : List ℤ). f ++ l) (sym (slot_any z))
+    ∙ slot_last r z
+    ∙ ap (λ (m : ℕ). layout (replicate m any) ++ z) (sym (add-one r))
+
+pub start_first : replicate sets_need (pos 0) ≡ started 0
+unfolding layout
+start_first = refl
+
+pub started_length : (r : ℕ) → r ≤ registers → length (started r) ≡ sets_need
+started_length r h =
+    let n = length-replicate (sets_need - 33 * r) (pos 0) in
+    length-append (layout (replicate r any)) (zeros (sets_need - 33 * r)) ∙ omega (arith, short_start r)
+
+module _ {r : ℕ} {l : List ℤ} (m : r ≡ registers) (e : l ≡ started r) where
+  start_last : l ≡ layout start_sets.sets
+  start_last = e ∙ ap started m ∙ append-nil (layout (replicate registers any))
 
   pub start_slots : Slots l
-  start_slots = slots (replicate registers s) (length-replicate registers s) (all_replicate Sized registers s z) started
+  start_slots = slots (replicate registers any) (length-replicate registers any) (all_replicate Sized registers any any_sized) start_last
 
-  pub start_is : sets_in registers l ≡ replicate registers s
-  start_is = sets_are (replicate registers s) (length-replicate registers s) (all_replicate Sized registers s z) started
+  pub start_is : sets_in registers l ≡ start_sets.sets
+  start_is = sets_are (replicate registers any) (length-replicate registers any) (all_replicate Sized registers any any_sized) start_last
 
 -- ---- a register's slot
 

@@ -31,17 +31,17 @@ use Rattle.set_values.specs.Value.{SoundResult}
 
 -- ---- a set that is not empty has a member, and back
 
-filled_of : (s : Set) → Normal s → 1 ≤ length s → (z : ℤ) × (z ∈ s)
+pub filled_of : (s : Set) → Normal s → 1 ≤ length s → (z : ℤ) × (z ∈ s)
 filled_of [] n l = absurd (let x : ⊥ = omega arith in x)
 filled_of (i ∷ s) n l = (i.lo, here (between (omega zarith) n.0.ordered))
 
-filled_length : {z : ℤ} (s : Set) → z ∈ s → 1 ≤ length s
+pub filled_length : {z : ℤ} (s : Set) → z ∈ s → 1 ≤ length s
 filled_length [] m = elim m [ ]
 filled_length (i ∷ s) m = omega arith
 
 -- ---- what the numbers of a form's set show
 
-ends_back : (s : Set) → take (2 * length s) (padded s) ≡ flat s
+pub ends_back : (s : Set) → take (2 * length s) (padded s) ≡ flat s
 unfolding padded
 ends_back s = take_at (flat s) (replicate (32 - length (flat s)) (pos 0)) (2 * length s) (length_flat s)
 

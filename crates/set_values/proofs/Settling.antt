@@ -1,7 +1,7 @@
 -- What an operation leaves in the work slice, and the form's answer that is made of it: one law for all operations. Assumes nothing.
 use mathlib.Core.Path.{◌≡◌, refl, sym, ap, ◌∙◌}
 use mathlib.Core.Bool.{Bool, true, false}
-use mathlib.Core.List.{List}
+use mathlib.Core.List.{List, [], ◌∷◌}
 use Prim.Native.Nat.{ℕ, ◌≤◌}
 use native.Mathlib.Omega.{arith}
 use lib.IntN.{ℤ}
@@ -11,9 +11,10 @@ use Rattle.meaning.specs.Refusals.{zero_divisor}
 use Rattle.meaning.specs.Outcome.{ok, stop, bind}
 use Rattle.meaning.specs.Number.{Op1, Op2}
 use Rattle.meaning.specs.NumberIntervals.{Set, Normal, set1, set2, flag1, flag2, flat, intervals}
-use Rattle.meaning.specs.Close.{close}
+use Rattle.meaning.specs.Close.{close, close_gaps}
 use Rattle.meaning.specs.Check.{settle, interval_limit}
 use Rattle.meaning.specs.CheckSets.{SoundSet}
+use Rattle.laws.proofs.CloseLaws.{close_few, close_normal, close_keeps}
 use Rattle.laws.proofs.Demand2.{demand2}
 use Rattle.laws.proofs.Flat.{intervals_flat, length_flat}
 use Rattle.std.specs.Borrow.{MutBor}
@@ -21,12 +22,36 @@ use Rattle.writer.specs.declared.Writer.{Writer}
 use Rattle.writer.specs.Written.{Starts}
 use Rattle.writer.proofs.Chain.{inside, first_written}
 use Rattle.slices.specs.Adds.{Adds}
-use Rattle.closing.specs.Gaps.{Closed}
+use Rattle.closing.specs.Gaps.{Ends, Closed}
 use Rattle.cores.specs.Cored.{Cored}
 use Rattle.replies.specs.declared.Written.{Written}
 use Rattle.set_values.specs.Held.{Few}
 use Rattle.set_values.specs.Value.{SoundResult, Settles, Left, answer1, answer2}
-use Rattle.set_values.proofs.Sets.{flat_few, one_sound, two_sound}
+use Rattle.set_values.proofs.Sets.{filled_of, filled_length, flat_few, one_sound, two_sound}
+
+-- ---- a set that is not empty, closed, and its ends
+
+some_closed : (s : Set) → 1 ≤ length (close interval_limit s) → 1 ≤ length s
+unfolding close close_gaps
+some_closed [] h = absurd (omega arith)
+some_closed (i ∷ s) h = omega arith
+
+some_ends : (l : List ℤ) → 2 ≤ length l → 1 ≤ length (intervals l)
+unfolding intervals
+some_ends [] h = absurd (omega arith)
+some_ends (a ∷ []) h = absurd (omega arith)
+some_ends (a ∷ b ∷ l) h = omega arith
+
+two_ends : (l : List ℤ) → 1 ≤ length (intervals l) → 2 ≤ length l
+unfolding intervals
+two_ends [] h = absurd (omega arith)
+two_ends (a ∷ []) h = absurd (omega arith)
+two_ends (a ∷ b ∷ l) h = omega arith
+
+closed_sound : (limit : ℕ) (s : Set) → 1 ≤ limit → limit ≤ interval_limit → Normal s → 1 ≤ length s → SoundSet interval_limit (close limit s)
+closed_sound limit s o l n f =
+    let m = filled_of s n f in
+    record { normal = close_normal limit s n; filled = (m.0, close_keeps limit s n m.1); few = omega (arith, close_few limit s o) }
 
 -- ---- the judgement on a form's answer: `count` numbers of work are its ends
 
@@ -40,13 +65,25 @@ module _ (old : List ℤ) (count : ℕ) (flag : Bool) where
     unfolding settle
     unflagged = rw f
 
-    module _ {new : List ℤ} {n : ℕ} (h : Closed interval_limit (take count old) new n) where
-      pub closed_few : SoundResult (settle interval_limit (intervals (take count old)) flag) → Few (take n new)
-      closed_few s = rw h.front (flat_few (rw unflagged at s))
+    -- a set that passes has the two ends of an interval
+    pub passed_two : count ≤ length old → SoundResult (settle interval_limit (intervals (take count old)) flag) → 2 ≤ count
+    passed_two r s =
+        let k : SoundSet interval_limit (close interval_limit (intervals (take count old))) = rw unflagged at s in
+        let some = some_closed (intervals (take count old)) (filled_length _ k.filled.1) in
+        omega (arith, two_ends (take count old) some, length-take-le count old r)
 
+    module _ {new : List ℤ} {n : ℕ} (h : Closed interval_limit (take count old) new n) where
       pub closed_is : {s : Set} → s ≡ intervals (take n new) → ok s ≡ settle interval_limit (intervals (take count old)) flag
       closed_is e =
           ap (λ (x : Set). ok x) (e ∙ ap intervals h.front ∙ intervals_flat (close interval_limit (intervals (take count old)))) ∙ sym unflagged
+
+-- closed to any limit of 1 to 16 intervals, the ends of a set that is not empty are those of a form's set
+pub closed_few
+    : (old : List ℤ) (count : ℕ) {limit : ℕ} {new : List ℤ} {n : ℕ} → Closed limit (take count old) new n → 1 ≤ limit → limit ≤ interval_limit
+    → count ≤ length old → Ends (take count old) → 2 ≤ count → Few (take n new)
+closed_few old count {limit} h o l r e t =
+    let some = some_ends (take count old) (omega (arith, length-take-le count old r)) in
+    rw h.front (flat_few (closed_sound limit _ o l e.normal some))
 
 -- ---- what is left
 

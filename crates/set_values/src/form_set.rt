@@ -59,7 +59,7 @@ impl FormSet {
         ensures { out.new ≡ slot (set_of self.now) }
     {
         out[0] = self.count as i64;
-        out[1..].copy_from_slice(&self.ends);
+        writer::copy(&mut out[1..], &self.ends);
     }
 }
 

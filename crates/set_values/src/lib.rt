@@ -3,13 +3,12 @@
 
 ghost use Rattle.std.specs.Prelude.{◌≡◌, false, ◌≤◌, length, take};
 ghost use Rattle.std.specs.Prelude.{Some};
-ghost use Rattle.meaning.specs.Outcome.{ok};
 ghost use Rattle.meaning.specs.NumberIntervals.{intervals, of_bools, set1, set2, flag1, flag2};
 ghost use Rattle.meaning.specs.Check.{settle as settle_of, interval_limit};
 ghost use Rattle.forms.specs.Answer.{op1_of, op2_of};
 ghost use Rattle.bools.specs.Reading.{bools_of};
 ghost use Rattle.cores.specs.Operation.{set_of as joined_of, flag_of};
-ghost use Rattle.set_values.specs.Value.{result_of, set_of, Settles, Left, kind_of, answer1, answer2};
+ghost use Rattle.set_values.specs.Value.{result_of, Settles, Left, kind_of, answer1, answer2};
 
 mod form_set;
 mod registers;
@@ -26,7 +25,8 @@ use sets::{Ends, Operand};
 use writer::Writer;
 
 // What a form's answer leaves: a zero divisor if its flag is set, else its set with gaps closed until 16 intervals remain.
-#[tactic(auto, using(crate::proofs::Settling::flagged, crate::proofs::Settling::closed_few, crate::proofs::Settling::closed_is))]
+#[tactic(auto, using(crate::proofs::Settling::flagged, crate::proofs::Settling::passed_two, crate::proofs::Settling::closed_few, crate::proofs::Settling::closed_is))]
+#[inline(always)]
 fn settle(work: &mut [i64; WORK], answer: Written) -> Result<FormSet, Cause>
     requires { Settles answer work.old }
     ensures { result_of result ≡ settle_of interval_limit (intervals (take answer.count work.old)) answer.flag }
@@ -114,18 +114,37 @@ fn core2(op: Op2, left: Operand, right: Operand, work: &mut [i64; WORK]) -> Writ
     }
 }
 
-// A form of one argument.
-pub fn apply1(op: Op1, a: FormSet, work: &mut [i64; WORK]) -> Result<FormSet, Cause>
-    ensures { result_of result ≡ answer1 (op1_of op) (ok (set_of a)) }
+// A form of one argument; its trouble is the answer.
+#[tactic(auto, unfolding(crate::specs::Value::answer1, meaning::specs::Outcome::bind))]
+pub fn apply1(op: Op1, a: &Result<FormSet, Cause>, work: &mut [i64; WORK]) -> Result<FormSet, Cause>
+    ensures { result_of result ≡ answer1 (op1_of op) (result_of a.now) }
 {
-    let answer = core1(op, a.ends(), work);
+    let set = match a {
+        Ok(set) => set,
+        Err(cause) => return Err(*cause),
+    };
+    let answer = core1(op, set.ends(), work);
     settle(work, answer)
 }
 
-// A form of two arguments.
-pub fn apply2(op: Op2, a: FormSet, b: FormSet, work: &mut [i64; WORK]) -> Result<FormSet, Cause>
-    ensures { result_of result ≡ answer2 (op2_of op) (ok (set_of a)) (ok (set_of b)) }
+// A form of two arguments; trouble in the left one comes first.
+#[tactic(auto, unfolding(crate::specs::Value::answer2, meaning::specs::Outcome::bind))]
+pub fn apply2(
+    op: Op2,
+    a: &Result<FormSet, Cause>,
+    b: &Result<FormSet, Cause>,
+    work: &mut [i64; WORK],
+) -> Result<FormSet, Cause>
+    ensures { result_of result ≡ answer2 (op2_of op) (result_of a.now) (result_of b.now) }
 {
-    let answer = core2(op, a.ends(), b.ends(), work);
+    let left = match a {
+        Ok(set) => set,
+        Err(cause) => return Err(*cause),
+    };
+    let right = match b {
+        Ok(set) => set,
+        Err(cause) => return Err(*cause),
+    };
+    let answer = core2(op, left.ends(), right.ends(), work);
     settle(work, answer)
 }

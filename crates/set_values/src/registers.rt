@@ -4,7 +4,6 @@ ghost use Rattle.sets.specs.OneWay.{Normal-prop};
 ghost use Rattle.set_values.specs.Slots.{Slots};
 
 use crate::FormSet;
-use interval::Interval;
 use limits::{REGISTERS, SETS, SLOT};
 
 // One array of all registers' numbers, register 0 first: for each how many intervals its set has, then room for their ends, 0 past them.
@@ -27,13 +26,11 @@ impl Registers {
         ensures { sets_of result ≡ start_sets.sets }
     {
         let mut numbers = [0i64; SETS];
-        let any = FormSet::from(Interval {
-            lo: i64::MIN,
-            hi: i64::MAX,
-        });
-        // Kept: by place, since nothing is said of what an array ends as whose parts are lent as chunks.
+        // Kept: by place, since nothing is said of what an array ends as whose parts are lent as chunks, and three numbers, since the others are 0 already.
         for r in 0..REGISTERS {
-            any.show(&mut numbers[SLOT * r..SLOT * (r + 1)]);
+            numbers[SLOT * r] = 1;
+            numbers[SLOT * r + 1] = i64::MIN;
+            numbers[SLOT * r + 2] = i64::MAX;
         }
         Registers { numbers }
     }
@@ -59,9 +56,9 @@ impl Registers {
     }
 
     // Register r takes a set.
-    pub fn give(&mut self, r: usize, value: FormSet)
+    pub fn give(&mut self, r: usize, value: &FormSet)
         requires { r < registers }
-        ensures { sets_of self.new ≡ set (sets_of self.old) r (set_of value) }
+        ensures { sets_of self.new ≡ set (sets_of self.old) r (set_of value.now) }
     {
         value.show(&mut self.numbers[SLOT * r..SLOT * (r + 1)]);
     }
@@ -70,6 +67,6 @@ impl Registers {
     pub fn show(&self, out: &mut [i64; SETS])
         ensures { out.new ≡ layout (sets_of self.now) }
     {
-        out.copy_from_slice(&self.numbers);
+        writer::copy(out, &self.numbers);
     }
 }

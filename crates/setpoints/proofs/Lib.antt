@@ -1,5 +1,5 @@
 pub mod Windows
 pub mod Picks
 mod Filled
-mod Giving
+pub mod Giving
 pub mod Answered

@@ -2,7 +2,8 @@
 // Distances are exact, from 0 to 2^64 - 1. Special are the empty set, which is refused, a number that is itself a member, and a distance that reaches past MIN or MAX.
 #![tactic(auto)]
 
-ghost use Rattle.std.specs.Prelude.{◌≡◌, ◌≤◌, ◌+◌, pos, slice_index_or, length, IfOk};
+ghost use Rattle.std.specs.Prelude.{◌≡◌, ◌≤◌, ◌+◌, pos, ◌+ℤ◌, ◌-ℤ◌, slice_index_or, length, IfOk};
+ghost use Rattle.meaning.specs.Number as point;
 ghost use Rattle.meaning.specs.Interval.{Proper};
 ghost use Rattle.meaning.specs.NumberIntervals.{intervals};
 ghost use Rattle.meaning.specs.Setpoints.{clamp, near, setpoint_refusal};
@@ -17,16 +18,16 @@ use replies::{Written, accept, hand_out};
 use sets::{Ends, Operand, meet};
 use writer::Writer;
 
-// The operand that a set is; refused is what no set call takes, and then the empty set.
+// The operand that a set is; refused is the empty set, and what no set call takes. Out of line, so that a refused set makes no room for an answer.
+#[inline(never)]
 fn accept_filled(s: &[i64]) -> Result<Operand, Cause>
     ensures refused { code_of result ≡ setpoint_refusal s.now }
     ensures same { IfOk result (λ operand. operand.set.numbers.now ≡ s.now) }
 {
-    let operand = accept(s)?;
     if s.is_empty() {
         return Err(Cause::EmptySet);
     }
-    Ok(operand)
+    accept(s)
 }
 
 // The number of an interval closest to x.
@@ -56,12 +57,26 @@ pub fn nearest(set: &[i64], x: i64) -> Result<i64, Cause>
     closest(accept(set)?.set, x).ok_or(Cause::EmptySet)
 }
 
+// x - d, but not below MIN.
+fn lowest(x: i64, d: u64) -> i64
+    ensures { result ≡ point.larger point.MIN (x -ℤ pos d) }
+{
+    x.saturating_sub_unsigned(d)
+}
+
+// x + d, but not above MAX.
+fn highest(x: i64, d: u64) -> i64
+    ensures { result ≡ point.smaller point.MAX (x +ℤ pos d) }
+{
+    x.saturating_add_unsigned(d)
+}
+
 // Writes the ends of the set of the members within distance d of x.
 fn near_into(out: &mut Writer<i64>, set: Ends, x: i64, d: u64)
     requires { out.old.len + (length set.numbers.now + 2) ≤ length out.old.room.now }
     ensures { Adds (near (intervals set.entry.numbers.now) x d) out.new out.old }
 {
-    let window = [x.saturating_sub_unsigned(d), x.saturating_add_unsigned(d)];
+    let window = [lowest(x, d), highest(x, d)];
     meet(out, set, Ends { numbers: &window });
 }
 

@@ -34,7 +34,7 @@ use Rattle.set_values.specs.declared.registers.Registers.{Registers}
 use Rattle.set_values.specs.Value.{sets_of, bands_of}
 use Rattle.set_lines.specs.Worked.{line_check, line_left}
 use Rattle.sheet_check.specs.Answer.{answer_for, Called}
-use Rattle.sheet_check.specs.Checked.{Checked}
+use Rattle.sheet_check.specs.Checked.{Checked, passed, shown}
 use Rattle.sheet_check.specs.declared.Passed.{Passed}
 
 -- ---- the lines
@@ -57,6 +57,9 @@ going_start t count registers s e = record {
   same = sheet_worked t s ∙ rw e;
 }
 
+pub enough : 1 ≤ interval_limit
+enough = omega arith
+
 line_of : (B : Bands) (b : List ℕ) {l : Line} {x : Res Bands} → read_line b ≡ ok l → x ≡ line_check B b → check_line interval_limit B l ≡ x
 unfolding line_check bind
 line_of B b {l} {x} e h = sym (subst (λ (r : Res Line). x ≡ bind r (check_line interval_limit B)) e h)
@@ -73,8 +76,8 @@ module _ (t : List ℕ) (count : ℕ) (registers : Registers) (n : ℕ) where
     left_is : check_text interval_limit t ≡ worked count (work (check_line interval_limit) (n + 1) (bands_of registers) (next.line ∷ next.left))
     left_is = g.same ∙ ap (λ (ls : List Line). worked count (work (check_line interval_limit) (n + 1) (bands_of registers) ls)) next.lines_are
 
-    pub going_stop : (registers' : Registers) (r : Result (Unit {0}) Cause) {x : Result Passed Trouble} → line_left r registers' ≡ line_check (bands_of registers) b
-        → (cause : Cause) × (r ≡ Err cause) × (x ≡ Err (Stopped cause (n + 1))) → Checked x (check_text interval_limit t)
+    pub going_stop : (registers' : Registers) (r : Result (Unit {0}) Cause) {x : Result ℕ Trouble} → line_left r registers' ≡ line_check (bands_of registers) b
+        → (cause : Cause) × (r ≡ Err cause) × (x ≡ Err (Stopped cause (n + 1))) → Checked (passed x registers') (check_text interval_limit t)
     unfolding work
     going_stop registers' r h e =
         let s = line_of (bands_of registers) b next.reads_it (rw e.1 at h) in
@@ -193,3 +196,8 @@ module _ (t : List ℕ) (sets work : List ℤ) where
     called_passed p x {new} l c =
         let long = length_shown (passed_sound interval_limit t (omega arith) x) in
         long_is (Ok p.count) (worked p.count (done (bands_of p.registers))) x refl (c ∙ (λ i. l i ++ drop (sym long i) sets))
+
+    pub called_sheet : (r : Result ℕ Trouble) (registers : Registers) → Checked (passed r registers) (check_text interval_limit t)
+        → {front new : List ℤ} → new ≡ shown r registers front → front ≡ take sets_need sets → sets' ≡ new ++ drop sets_need sets → Called t sets work r sets' work'
+    called_sheet (Ok n) registers x e f c = called_passed (record { count = n; registers = registers }) x e c
+    called_sheet (Err cause) registers x e f c = called_failed cause x (c ∙ whole sets sets_need (e ∙ f))

@@ -1,7 +1,7 @@
 // The check: its answer, the sets and the work that it leaves.
 use crate::case::{OLD_SETS, Sheet};
 use limits::WORK;
-use replay::ROOM;
+use replay::{ROOM, same};
 use sheet_check::check;
 
 // What the work holds when it is lent.
@@ -17,5 +17,5 @@ pub fn agrees(s: &Sheet) -> Option<bool> {
         cleared[..WORK].fill(0);
     }
     let answer = check(s.text, sets.get_mut(..c.sets)?, work.get_mut(..c.work)?);
-    Some(c.checked == Some(answer) && sets.as_slice() == s.sets && work == cleared)
+    Some(c.checked.expects(answer) && same(&sets, s.sets) && same(&work, &cleared))
 }

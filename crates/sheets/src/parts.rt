@@ -14,7 +14,7 @@ pub fn listed(s: &Sheet) -> Option<bool> {
 pub fn paged(s: &Sheet) -> Option<bool> {
     let mut out = [0u8; PAGE_ROOM];
     match page(s.text, &mut out) {
-        Ok(n) => Some(s.case.paged == Some(Ok(0)) && out.get(..n)? == s.page),
-        Err(trouble) => Some(s.case.paged == Some(Err(trouble))),
+        Ok(n) => Some(s.case.paged.expects(Ok(0)) && out.get(..n)? == s.page),
+        refusal => Some(s.case.paged.expects(refusal)),
     }
 }

@@ -3,7 +3,7 @@ use crate::case::Sheet;
 
 // Whether the text is judged as is expected.
 pub fn judged(s: &Sheet) -> Option<bool> {
-    Some(s.case.judged? == sheet::judge_text(s.text))
+    Some(s.case.judged.expects(sheet::judge_text(s.text)))
 }
 
 // Whether the bytes of the line are the stored part of the text; none if that part does not lie in the text.

@@ -2,12 +2,13 @@
 // in two's complement.
 #![tactic(auto)]
 
-ghost use Rattle.std.specs.Prelude.{◌≡◌, ◌+◌, ◌*◌, ◌↔◌, IsTrue, pos};
+ghost use Rattle.std.specs.Prelude.{◌≡◌, ◌+◌, ◌*◌, ◌↔◌, ◌&&◌, IsTrue, eqb, pos};
 ghost use Rattle.meaning.specs.Number.{wrap};
-ghost use Rattle.stored.specs.Expected.{Expected, Reads, Replies};
+ghost use Rattle.stored.specs.Expected.{Expected, ExpectedReply, ExpectedMember, Reads, Replies, StoredBy};
 ghost use Rattle.stored.specs.Stored.{bits_at};
 
 use refusals::{Cause, Trouble};
+use replies::Written;
 
 // Two bytes as a length, the least first.
 pub fn pair(low: u8, high: u8) -> usize
@@ -44,7 +45,29 @@ pub fn verdict_in(kind: u8, number: u8, low: u8, high: u8) -> Verdict
     }
 }
 
+// Whether an answer of this kind, number and line is the one expected.
+pub fn verdict_as_expected(e: Verdict, kind: u8, number: u8, line: usize) -> bool
+    ensures { result ≡ ((eqb e.kind kind && eqb e.number number) && eqb e.line line) }
+{
+    (e.kind == kind) & (e.number == number) & (e.line == line)
+}
+
 impl Verdict {
+    // Whether the answer is the one that is stored.
+    pub fn expects(self, answer: Result<usize, Trouble>) -> bool
+        ensures { IsTrue result ↔ StoredBy self.kind self.number self.line answer }
+    {
+        match answer {
+            Ok(n) => verdict_as_expected(self, 0, 0, n),
+            Err(Trouble::Stopped(cause, line)) => {
+                verdict_as_expected(self, 1, u8::from(cause), line)
+            }
+            Err(Trouble::Refused(cause, line)) => {
+                verdict_as_expected(self, 2, u8::from(cause), line)
+            }
+        }
+    }
+
     // The answer that is stored so; none where no answer is.
     pub fn answer(self) -> Option<Result<usize, Trouble>>
         ensures { Reads self.kind self.number self.line result }
@@ -72,7 +95,6 @@ pub fn reply_in<T: Copy>(number: u8, value: T) -> Option<Result<T, Cause>>
 }
 
 // Whether the answer of a set call is the one expected: a refusal by its number, success by its value.
-// Kept: beside `reply_in`, for a caller who has the number and the value and no answer made of them.
 pub fn as_expected<T: PartialEq + Copy>(answer: Result<T, Cause>, number: u8, value: T) -> bool
     ensures { IsTrue result ↔ Expected T.eq answer number value }
 {
@@ -80,4 +102,23 @@ pub fn as_expected<T: PartialEq + Copy>(answer: Result<T, Cause>, number: u8, va
         Ok(v) => number == 0 && v == value,
         Err(cause) => number == u8::from(cause),
     }
+}
+
+// The same of what a set call writes: success by its count and flag.
+pub fn reply_as_expected(
+    reply: Result<Written, Cause>,
+    number: u8,
+    count: usize,
+    flag: bool,
+) -> bool
+    ensures { IsTrue result ↔ ExpectedReply reply number count flag }
+{
+    as_expected(reply, number, Written { count, flag })
+}
+
+// The same of what nearest answers: success by its member.
+pub fn setpoint_as_expected(answer: Result<i64, Cause>, number: u8, member: i64) -> bool
+    ensures { IsTrue result ↔ ExpectedMember answer number member }
+{
+    as_expected(answer, number, member)
 }

@@ -3,8 +3,11 @@
 // Kept: a function for each operation, since C, Rust and Python call each by a name of its own; what they share is `related`.
 #![tactic(auto)]
 
+ghost use Rattle.std.specs.Prelude.{◌≡◌};
 ghost use Rattle.meaning.specs.Number as point;
 ghost use Rattle.meaning.specs.Promises.{Gives1, Gives2};
+ghost use Rattle.meaning.specs.SetCalls.{refusal};
+ghost use Rattle.sets.specs.Sets.{Argument};
 ghost use Rattle.replies.specs.Returning.{returned};
 
 use cores::Relation;
@@ -15,6 +18,7 @@ use set_calls::{hand_bools, related};
 // The set of what `not` gives of all members: none, 0, 1000 or both.
 pub fn not(left: &[i64], out: &mut [i64]) -> Result<Written, Cause>
     ensures gives1 { Gives1 point.not' left.now out.old (returned result) out.new }
+    ensures argument { (refusal left.now ≡ 0 → Argument left.now) }
 {
     accept(left)?;
     hand_bools(out, bools::not(bools::of_set(left)))

@@ -1,10 +1,11 @@
 // The set calls. A case is 16 bytes that say what is lent and what is expected, then the numbers of the left set, the right set and the answer.
 use crate::case::{Case, OLD_OUT};
 use refusals::Cause;
-use replay::{ROOM, read_front, replay_file};
+use replay::{ROOM, read_front, replay_file, same};
 use replies::Written;
 use std::io::Read;
 use std::rt::Files;
+use stored::reply_as_expected;
 
 // What work holds when it is lent; no case has this number.
 const OLD_WORK: i64 = -7777777;
@@ -19,9 +20,11 @@ impl Case {
     {
         let mut left = [0i64; 64];
         let mut right = [0i64; 64];
-        let left = read_front(file, &mut left, self.left)?;
-        let right = read_front(file, &mut right, self.right)?;
-        let want = self.read_out(file)?;
+        let left = read_front(file, &mut left, self.left);
+        let right = read_front(file, &mut right, self.right);
+        let mut want = [OLD_OUT; ROOM];
+        let stored = read_front(file, &mut want, self.count);
+        let (left, right, _) = (left?, right?, stored?);
         let mut cleared = [OLD_WORK; ROOM];
         cleared.get_mut(..self.zeroed)?.fill(0);
         let mut work = [OLD_WORK; ROOM];
@@ -33,7 +36,8 @@ impl Case {
             work.get_mut(..self.work)?,
             out.get_mut(..self.room)?,
         );
-        Some(self.expected == Some(answer) && work == cleared && out == want)
+        let is_answer = reply_as_expected(answer, self.number, self.count, self.flag_after);
+        Some(is_answer && same(&work, &cleared) && same(&out, &want))
     }
 }
 

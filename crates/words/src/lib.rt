@@ -10,6 +10,9 @@ pub const MIN: i64 = i64::MIN;
 
 pub const MAX: i64 = i64::MAX;
 
+// The number after MIN, the least that has a positive counterpart.
+pub const MINUS_MAX: i64 = -MAX;
+
 // One unit, in thousandths.
 pub const ONE: i64 = 1000;
 

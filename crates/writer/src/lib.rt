@@ -4,6 +4,17 @@
 ghost use Rattle.std.specs.Prelude.{◌≡◌, ◌≤◌, length, take};
 ghost use Rattle.writer.specs.Written.{Fits, Appends, Starts};
 
+// Copies a slice into one as long.
+// Kept: a loop, since `copy_from_slice` becomes a call of `memmove`, which the archive for C may not ask of its callers.
+pub fn copy<T: Copy>(out: &mut [T], from: &[T])
+    requires { length out.old ≡ length from.now }
+    ensures { out.new ≡ from.now }
+{
+    for i in 0..from.len() {
+        out[i] = from[i];
+    }
+}
+
 // The slice, and how many of its elements are written.
 // Kept: a slice with a length beside it, since the project has no heap.
 // Kept: that there is room stands in each contract that writes, since room falls with each part that is written.
@@ -35,7 +46,7 @@ impl<'a, T: Copy> Writer<'a, T> {
         ensures { Appends part.now self.new self.old }
     {
         let end = self.len + part.len();
-        self.room[self.len..end].copy_from_slice(part);
+        copy(&mut self.room[self.len..end], part);
         self.len = end;
     }
 }

@@ -51,7 +51,8 @@ least_gap-gap-requires-in-Some c =
     let t = next_at c.args.ends.now _ m c.loop-s.s-index _ c.split_at_mut-front.ensures.back (omega arith) c.as_chunks.ensures.front c.loop-s-test.true c.as_chunks.ensures.front_len in
     let g : mag (end_at l (m - 1)) < 2 ^ 63 = omega arith in
     let j = rw (back _ g, back _ c.s-1.given, t.start) at c.missing.ensures in
-    let q : c.in-Some.least.missing ≤ missing_of (end_at l (length l - 1)) (end_at c.args.ends.now k) = rw r (rw j at c.if-least-missing.true) in
+    let h = rw j at c.if-least-missing.true in
+    let q : c.in-Some.least.missing ≤ missing_of (end_at l (length l - 1)) (end_at c.args.ends.now k) = rw r (omega arith) in
     let p = rw (back _ c.s-1.given, back _ c.e-1.given, t.start, t.end) at c.push.ensures in
     let a = far_turn c.loop-s.invariant.1 t.room (rw c.in-Some.is at c.loop-s.invariant.2) q _ p in
     rw (gaps_are _ m (a.0 ∙ r)) (gaps_even a.1, a.1.wide, a.2)
@@ -69,7 +70,8 @@ loop-s-preserved c =
       | in-Some w ↦
           let g : mag (end_at l (m - 1)) < 2 ^ 63 = omega arith in
           let j = rw (back _ g, back _ c.s-1.given, t.start) at w.missing.ensures in
-          let q : w.in-Some.least.missing ≤ missing_of (end_at l (length l - 1)) (end_at c.args.ends.now k) = rw r (rw j at w.if-least-missing.true) in
+          let h = rw j at w.if-least-missing.true in
+          let q : w.in-Some.least.missing ≤ missing_of (end_at l (length l - 1)) (end_at c.args.ends.now k) = rw r (omega arith) in
           let p = rw (back _ c.s-1.given, back _ c.e-1.given, t.start, t.end) at w.push.ensures in
           let a = far_turn c.loop-s.invariant.1 t.room (rw w.in-Some.is at c.loop-s.invariant.2) q _ p in
           rw (w.front-is, w.gap-is, n) (a.0 ∙ r, a.1, rw (gaps_are _ m (a.0 ∙ r)) at w.least_gap-gap-in-Some.ensures)

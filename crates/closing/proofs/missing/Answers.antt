@@ -1,12 +1,10 @@
 -- The distance counts the next start too.
 use mathlib.Core.Path.{◌≡◌, ap, ◌∙◌}
-use Prim.Native.Nat.{ℕ, ◌-◌, ◌≤◌}
-use lib.IntN.{ℤ, pos, nat_abs, suc_ℤ, ◌-ℤ◌}
-use lib.Signed.{◌<ℤ◌}
+use Prim.Native.Nat.{ℕ, ◌-◌}
+use lib.IntN.{ℤ, pos, nat_abs, ◌-ℤ◌}
 use mir.Syntax.{w64}
 use mir.Val.{SFits, to_z, of_z}
 use mir.Facts.{to_z-of_z}
-use Rattle.laws.proofs.Integers.{zarith, suc_parts, sub_parts}
 use Rattle.meaning.specs.Number.{distance}
 use Rattle.meaning.specs.Close.{missing}
 use Rattle.closing.proofs.missing.Goals as goal

@@ -15,4 +15,4 @@ pub returns : goal.returns
 unfolding over
 returns c =
     writes_all c.args.from.now
-    refl (ap (λ (l : List ℕ). l ++ drop (length c.args.from.now) c.args.out.now) c.copy_from_slice.ensures.after) (omega arith)
+    refl (ap (λ (l : List ℕ). l ++ drop (length c.args.from.now) c.args.out.now) c.copy.ensures) (omega arith)

@@ -1,17 +1,13 @@
--- `literals::finish` meets its contract: what a cast to an i64 refuses is beyond MIN..MAX.
-use mathlib.Core.Path.{◌≡◌, sym, ap, ◌∙◌}
-use Rattle.meaning.specs.Reading.{signed}
+-- `literals::finish` meets its contract: what does not fit an i64 is beyond MIN..MAX.
+use mathlib.Core.Path.{ap, ◌∙◌}
+use lib.IntN.{pos, neg_ℤ, +ℤ_idl}
 use Rattle.literals.specs.Answer.{held}
-use Rattle.literals.proofs.Literals.{held_is, read_up, read_down}
+use Rattle.literals.proofs.Literals.{held_is, held_some}
 use Rattle.literals.proofs.finish.Goals as goal
-use Rattle.literals.proofs.finish.Goals.{then-negated, else-negated}
 
-pub returns : goal.returns
-returns c =
-    let m = c.args.m in
-    let e : c.if-negated.try_from ≡ signed c.args.negated m =
-    sym c.if-negated.try_from-is ∙ elim c.if-negated.branch [
-      | then-negated w ↦ w.try_from-is ∙ rw (c.from-magnitude.ensures, w.if-negated.true) (read_down m c.ranges.m.fits)
-      | else-negated w ↦ w.try_from-is ∙ rw (c.from-magnitude.ensures, w.if-negated.false) (read_up m c.ranges.m.fits)
-    ] in
-    c.ok.ensures.value ∙ held_is _ _ c.try_from.ensures ∙ ap held (c.if-negated.try_from-is ∙ e)
+pub returns-then-negated : goal.returns-then-negated
+returns-then-negated c =
+    rw c.if-negated.true (held_some _ _ c.checked_sub_unsigned.ensures ∙ ap held (+ℤ_idl (neg_ℤ (pos c.args.m))))
+
+pub returns-else-negated : goal.returns-else-negated
+returns-else-negated c = rw c.if-negated.false (c.ok.ensures.value ∙ held_is _ _ c.try_from.ensures)

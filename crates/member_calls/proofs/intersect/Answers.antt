@@ -11,10 +11,13 @@ use Rattle.member_calls.proofs.intersect.Goals as goal
 pub returns-in_err-left : goal.returns-in_err-left
 returns-in_err-left c =
     let p = err_from_is_err_and c.from_residual.result c.from_residual.ensures.1 in
-    rw (p.1, p.2) record { meets = meets_refused _ _ _ c.in_err-left.ensures.refused (number_not_zero _) }
+    let e = c.in_err-left.ensures.refused in
+    let h = number_not_zero _ in
+    rw (p.1, p.2) record { meets = meets_refused _ _ _ e h; arguments = λ z. absurd (h (e ∙ z)) }
 
 pub returns : goal.returns
 returns c =
     let a = c.in_ok-left.ensures in
     let e = written_is c.new-common.ensures c.meet.ensures c.written.ensures ∙ (λ i. flat (intersect (intervals (a.same.0 i)) (intervals (a.same.1 i)))) in
-    record { meets = meets _ _ _ (call_handed _ _ _ _ e (sym a.refused) c.hand_out.ensures.0 c.hand_out.ensures.1) (λ _. arguments_are c.in_ok-left.left c.in_ok-left.right a.same) }
+    let k = arguments_are c.in_ok-left.left c.in_ok-left.right a.same in
+    record { meets = meets _ _ _ (call_handed _ _ _ _ e (sym a.refused) c.hand_out.ensures.0 c.hand_out.ensures.1) (λ _. k); arguments = λ _. k }

@@ -11,32 +11,31 @@ use Rattle.set_lines.proofs.check_line.Goals as goal
 pub returns-in_err-r : goal.returns-in_err-r
 returns-in_err-r c =
     let p = err_from_is_err_and c.from_residual.result c.from_residual.ensures.1 in
-    rw (p.1, p.2) (refused_is c.args.text.now c.in_err-r.ensures (bands_of c.args.registers.now))
+    rw (p.1, p.2) (refused_is c.args.text.now c.in_err-r.ensures.line (bands_of c.args.registers.now))
 
 pub give-requires : goal.give-requires
-give-requires c = in_there c.args.text.now (read_as c.args.text.now c.read_line.ensures c.in_ok-r.was c.in-In.is)
+give-requires c = in_there c.args.text.now (read_as c.args.text.now c.read_line.ensures.line c.in_ok-r.was c.in-In.is)
 
 pub returns-in-In : goal.returns-in-In
 returns-in-In c =
-    in_is c.args.text.now (read_as c.args.text.now c.read_line.ensures c.in_ok-r.was c.in-In.is) (sets_of c.args.registers.now) c.give.ensures c.from.ensures
+    in_is c.args.text.now (read_as c.args.text.now c.read_line.ensures.line c.in_ok-r.was c.in-In.is) (sets_of c.args.registers.now) c.give.ensures c.from.ensures
 
 pub give-requires-in-Put : goal.give-requires-in-Put
-give-requires-in-Put c = put_there c.args.text.now c.in-Put.r c.in-Put.form.now (read_as c.args.text.now c.read_line.ensures c.in_ok-r.was c.in-Put.is)
+give-requires-in-Put c = put_there c.args.text.now c.in-Put.r c.in-Put.form.now (read_as c.args.text.now c.read_line.ensures.line c.in_ok-r.was c.in-Put.is)
 
-pub returns-in_ok-value-in-Put : goal.returns-in_ok-value-in-Put
-returns-in_ok-value-in-Put c =
-    put_worked c.args.text.now c.in-Put.r c.in-Put.form.now (read_as c.args.text.now c.read_line.ensures c.in_ok-r.was c.in-Put.is)
-    (sets_of c.args.registers.now) c.value.ensures (ap result_of c.in_ok-value-in-Put.was) c.give-in-Put.ensures
+pub returns-in-Ok : goal.returns-in-Ok
+returns-in-Ok c =
+    put_worked c.args.text.now c.in-Put.r c.in-Put.form.now (read_as c.args.text.now c.read_line.ensures.line c.in_ok-r.was c.in-Put.is)
+    (sets_of c.args.registers.now) c.value-value.ensures (ap result_of c.in-Ok.is) c.give-in-Put.ensures
 
-pub returns-in_err-value-in-Put : goal.returns-in_err-value-in-Put
-returns-in_err-value-in-Put c =
-    let p = err_from_is_err_and c.from_residual-in_err-value-in-Put.result c.from_residual-in_err-value-in-Put.ensures.1 in
-    rw (p.1, p.2) (put_stopped c.args.text.now c.in-Put.r c.in-Put.form.now (read_as c.args.text.now c.read_line.ensures c.in_ok-r.was c.in-Put.is)
-    (sets_of c.args.registers.now) c.value.ensures (ap result_of c.in_err-value-in-Put.was))
+pub returns-in-Err : goal.returns-in-Err
+returns-in-Err c =
+    put_stopped c.args.text.now c.in-Put.r c.in-Put.form.now (read_as c.args.text.now c.read_line.ensures.line c.in_ok-r.was c.in-Put.is)
+    (sets_of c.args.registers.now) c.value-value.ensures (ap result_of c.in-Err.is)
 
 pub set-requires : goal.set-requires
-set-requires c = hold_there c.args.text.now (read_as c.args.text.now c.read_line.ensures c.in_ok-r.was c.in-Hold.is)
+set-requires c = hold_there c.args.text.now (read_as c.args.text.now c.read_line.ensures.line c.in_ok-r.was c.in-Hold.is)
 
 pub returns-in-Hold : goal.returns-in-Hold
 returns-in-Hold c =
-    hold_is c.args.text.now (read_as c.args.text.now c.read_line.ensures c.in_ok-r.was c.in-Hold.is) c.args.registers.now c.hold.result (c.hold.ensures ∙ ap (λ (s : Set). hold_number (inside c.in-Hold.bounds.lo s c.in-Hold.bounds.hi)) c.set.ensures)
+    hold_is c.args.text.now (read_as c.args.text.now c.read_line.ensures.line c.in_ok-r.was c.in-Hold.is) c.args.registers.now c.hold.result (c.hold.ensures ∙ ap (λ (s : Set). hold_number (inside c.in-Hold.bounds.lo s c.in-Hold.bounds.hi)) c.set.ensures)

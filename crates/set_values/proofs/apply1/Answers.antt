@@ -5,7 +5,8 @@ use Rattle.set_values.proofs.Settling.{settles1, answer1_is}
 use Rattle.set_values.proofs.apply1.Goals as goal
 
 pub settle-requires : goal.settle-requires
-settle-requires c = settles1 (held_sound c.args.a.held) c.ends.ensures _ c.core1-answer.ensures
+settle-requires c = settles1 (held_sound c.in-Ok.set.held) c.ends.ensures _ c.core1-answer.ensures
 
 pub returns : goal.returns
-returns c = c.settle.ensures ∙ answer1_is (held_sound c.args.a.held) c.ends.ensures _ c.core1-answer.ensures
+returns c =
+    rw c.in-Ok.is (c.settle.ensures ∙ answer1_is (held_sound c.in-Ok.set.held) c.ends.ensures _ c.core1-answer.ensures)

@@ -5,8 +5,10 @@ use Rattle.set_values.proofs.Settling.{settles2, answer2_is}
 use Rattle.set_values.proofs.apply2.Goals as goal
 
 pub settle-requires : goal.settle-requires
-settle-requires c = settles2 (held_sound c.args.a.held) c.ends.ensures (held_sound c.args.b.held) c.ends-2.ensures _ c.core2-answer.ensures
+settle-requires c =
+    settles2 (held_sound c.in-Ok.set.held) c.ends.ensures (held_sound c.in-Ok-b.set.held) c.ends-2.ensures _ c.core2-answer.ensures
 
 pub returns : goal.returns
 returns c =
-    c.settle.ensures ∙ answer2_is (held_sound c.args.a.held) c.ends.ensures (held_sound c.args.b.held) c.ends-2.ensures _ c.core2-answer.ensures
+    rw (c.in-Ok.is, c.in-Ok-b.is) (c.settle.ensures ∙
+    answer2_is (held_sound c.in-Ok.set.held) c.ends.ensures (held_sound c.in-Ok-b.set.held) c.ends-2.ensures _ c.core2-answer.ensures)

@@ -1,28 +1,29 @@
--- The tests stand in the order of the definition. Assumes nothing.
-use Rattle.std.proofs.Common.{◌≡◌, ◌≤◌, length, ap, arith}
+-- The empty set is normal and has no member; any other is refused for what every call refuses. Assumes nothing.
+use Rattle.std.proofs.Common.{◌≡◌, ◌≤◌, ℤ, List, [], ◌∷◌, length, true, refl, arith}
+use Rattle.meaning.specs.NumberIntervals.{normal, intervals}
+use Rattle.meaning.specs.SetCalls.{refusal}
 use Rattle.meaning.specs.Setpoints.{setpoint_refusal}
 use Rattle.laws.proofs.Flat.{normal_even}
-use Rattle.refusals.proofs.Rows.{number_not_zero}
-use Rattle.setpoints.proofs.Filled.{none, some}
+use Rattle.setpoints.proofs.Filled.{some}
 use Rattle.setpoints.proofs.accept_filled.Goals as goal
 
-pub returns-in_err-operand-clause-refused : goal.returns-in_err-operand-clause-refused
-unfolding setpoint_refusal
-returns-in_err-operand-clause-refused c = grind (arith, number_not_zero)
+empty : (l : List ℤ) → length l ≡ 0 → setpoint_refusal l ≡ 10
+unfolding setpoint_refusal refusal normal intervals
+empty [] e = refl
+empty (x ∷ l) e = absurd (omega arith)
+
+given : (l : List ℤ) → 1 ≤ length l → setpoint_refusal l ≡ refusal l
+unfolding setpoint_refusal refusal
+given l h = let e = normal_even l in let f = some l in grind (arith, h, e, f)
 
 pub returns-then-is_empty-clause-refused : goal.returns-then-is_empty-clause-refused
-unfolding setpoint_refusal
 returns-then-is_empty-clause-refused c =
-    let h = c.in_ok-operand.ensures.refused in
     let n : length c.args.s.now ≡ 0 = grind arith in
-    let e = none c.args.s.now n in
-    grind (arith, h, e)
+    let e = empty c.args.s.now n in
+    grind (arith, e)
 
 pub returns-clause-refused : goal.returns-clause-refused
-unfolding setpoint_refusal
 returns-clause-refused c =
-    let h = c.in_ok-operand.ensures.refused in
     let n : 1 ≤ length c.args.s.now = grind arith in
-    let same : length c.in_ok-operand.operand.set.numbers.now ≡ length c.args.s.now = ap length c.in_ok-operand.ensures.same in
-    let e = some c.args.s.now (omega (arith, normal_even _ c.in_ok-operand.operand.set.set.test, same, n)) in
-    grind (arith, h, e)
+    let e = given c.args.s.now n in
+    grind (arith, e)

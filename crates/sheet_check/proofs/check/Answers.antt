@@ -4,7 +4,7 @@ use Rattle.std.proofs.lemmas.Result.{err_from_is_err_and}
 use Rattle.meaning.specs.Check.{interval_limit, check_text}
 use Rattle.refusals.specs.declared.Cause.TheVariants.{TooShort}
 use Rattle.refusals.specs.declared.Trouble.TheVariants.{Refused}
-use Rattle.sheet_check.proofs.Walking.{called_short_sets, called_short_work, called_failed, called_passed, whole, work_whole}
+use Rattle.sheet_check.proofs.Walking.{text_refused, called_short_sets, called_short_work, called_failed, called_sheet, whole, work_whole}
 use Rattle.sheet_check.proofs.check.Goals as goal
 
 pub returns-in_err-sets : goal.returns-in_err-sets
@@ -24,17 +24,19 @@ returns-in_err-work c =
     let x : c.from_residual-in_err-work.result ≡ Err (Refused c.in_err-work.field-0.0 0) = search rules in
     rw (x, k) (called_short_work c.args.text.now c.args.sets.now c.args.work.now s.enough (rw n at c.first_chunk_mut-2.ensures.cases) (whole c.args.sets.now 528 s.same))
 
-pub returns-in_err-passed : goal.returns-in_err-passed
-returns-in_err-passed c =
+pub returns-in_err-lines : goal.returns-in_err-lines
+returns-in_err-lines c =
     let s = rw (c.in_ok-sets.ensures.ok_part) at c.first_chunk_mut.ensures.cases in
     let w = rw (c.in_ok-work.ensures.ok_part) at c.first_chunk_mut-2.ensures.cases in
-    let p = err_from_is_err_and c.from_residual-in_err-passed.result c.from_residual-in_err-passed.ensures.1 in
-    let d = work_whole c.args.work.now w.enough w.same (check_text interval_limit c.args.text.now) c.in_err-passed.ensures.left in
-    rw (p.1, p.2) (called_failed c.args.text.now c.args.sets.now c.args.work.now s.enough w.enough d c.in_err-passed.field-0.0 c.in_err-passed.ensures.answer (whole c.args.sets.now 528 s.same))
+    let p = err_from_is_err_and c.from_residual-in_err-lines.result c.from_residual-in_err-lines.ensures.1 in
+    let x = text_refused c.args.text.now c.judge_text.ensures.answer_is c.in_err-lines.was in
+    let d = work_whole c.args.work.now w.enough w.same (check_text interval_limit c.args.text.now) (x.1 _) in
+    rw (p.1, p.2) (called_failed c.args.text.now c.args.sets.now c.args.work.now s.enough w.enough d c.in_err-lines.field-0.0 x.0 (whole c.args.sets.now 528 s.same))
 
 pub returns : goal.returns
 returns c =
     let s = rw (c.in_ok-sets.ensures.ok_part) at c.first_chunk_mut.ensures.cases in
     let w = rw (c.in_ok-work.ensures.ok_part) at c.first_chunk_mut-2.ensures.cases in
-    let d = work_whole c.args.work.now w.enough w.same (check_text interval_limit c.args.text.now) c.in_ok-passed.ensures.left in
-    called_passed c.args.text.now c.args.sets.now c.args.work.now s.enough w.enough d c.in_ok-passed.passed c.in_ok-passed.ensures.answer c.show.ensures refl
+    let d = work_whole c.args.work.now w.enough w.same (check_text interval_limit c.args.text.now) c.check_sets.ensures.left in
+    let a = c.check_sets.ensures.answer in
+    called_sheet c.args.text.now c.args.sets.now c.args.work.now s.enough w.enough d c.check_sets.result a.0 a.1 a.2 s.same refl

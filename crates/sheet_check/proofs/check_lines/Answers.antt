@@ -11,7 +11,7 @@ loop-n-init c =
     let i = c.into_iter-n-iterator.ensures.into_iter_gives in
     let text : c.into_iter-n-iterator.result.iter.rest.now ≡ c.args.text.now = ap (λ (it : Lines). it.rest.now) (ap enumerate_source i ∙ c.enumerate-n-items.ensures.source) ∙ c.of.ensures in
     let count : c.into_iter-n-iterator.result.count ≡ 0 = ap enumerate_count i ∙ c.enumerate-n-items.ensures.count in
-    rw (count, text) (going_start c.args.text.now c.args.count c.start-registers.result c.requires c.start-registers.ensures)
+    rw (count, text) (going_start c.args.text.now c.args.count c.args.registers.now c.requires.sheet c.requires.any)
 
 pub loop-n-preserved : goal.loop-n-preserved
 loop-n-preserved c =

@@ -1,11 +1,11 @@
--- The text is judged, and a sheet is worked; then the work slice is 0. Assumes nothing.
+-- The text is judged, and a sheet is worked. Assumes nothing.
 use Rattle.std.proofs.lemmas.Result.{err_from_is_err_and}
 use Rattle.sheet.proofs.Judging.{fine_sheet}
-use Rattle.sheet_check.proofs.Walking.{text_refused, sheet_left}
+use Rattle.sheet_check.proofs.Walking.{text_refused}
 use Rattle.sheet_check.proofs.check_text.Goals as goal
 
-pub check_lines-checked-requires : goal.check_lines-checked-requires
-check_lines-checked-requires c = fine_sheet c.args.text.now c.judge_text.ensures.answer_is c.in_ok-count.was
+pub check_sheet-requires-clause-sheet : goal.check_sheet-requires-clause-sheet
+check_sheet-requires-clause-sheet c = fine_sheet c.args.text.now c.judge_text.ensures.answer_is c.in_ok-count.was
 
 pub returns-in_err-count-clause-answer : goal.returns-in_err-count-clause-answer
 returns-in_err-count-clause-answer c =
@@ -14,8 +14,3 @@ returns-in_err-count-clause-answer c =
 
 pub returns-in_err-count-clause-left : goal.returns-in_err-count-clause-left
 returns-in_err-count-clause-left c = (text_refused c.args.text.now c.judge_text.ensures.answer_is c.in_err-count.was).1 c.args.work.now
-
-pub returns-clause-left : goal.returns-clause-left
-returns-clause-left c =
-    sheet_left c.args.text.now (fine_sheet c.args.text.now c.judge_text.ensures.answer_is c.in_ok-count.was) c.args.work.now c.check_lines-checked.new.work
-    c.told-work c.check_lines-checked.array_long (c.fill.ensures.after (λ y e. e))

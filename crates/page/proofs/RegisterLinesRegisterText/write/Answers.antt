@@ -8,7 +8,7 @@ use Rattle.page.proofs.RegisterLinesRegisterText.write.Goals as goal
 pub register_lines-requires : goal.register_lines-requires
 register_lines-requires c =
     let e = c.ends.ensures in
-    (omega arith, ends_normal c.args.set e, omega (arith, ends_fit c.args.set e c.args.r c.requires.0, c.requires.1))
+    (omega arith, ends_normal c.args.set.now e, omega (arith, ends_fit c.args.set.now e c.args.r c.requires.0, c.requires.1))
 
 pub returns : goal.returns
-returns c = appends_as (ap (lines_of c.args.r) (ends_are c.args.set c.ends.ensures)) c.register_lines.ensures
+returns c = appends_as (ap (lines_of c.args.r) (ends_are c.args.set.now c.ends.ensures)) c.register_lines.ensures

@@ -7,7 +7,7 @@ use Rattle.interval.specs.Part.{of_part, of_divisor}
 use Rattle.interval.proofs.Branches.{none_after, part_written, part_missing}
 use Rattle.interval.proofs.Cuts.{proper}
 use Rattle.quotients.specs.Hull.{hull}
-use Rattle.quotients.proofs.DivRules.{plain_piece, first_room, lefts_room, rights_room, piece_added}
+use Rattle.quotients.proofs.DivRules.{any_hull, plain_piece, first_room, lefts_room, rights_room, piece_added}
 use Rattle.quotients.proofs.div.div_piece.Goals as goal
 use Rattle.quotients.proofs.div.div_piece.Goals.{in-Some, in_default}
 
@@ -32,8 +32,9 @@ put_plain-requires-in-Some-below c =
       | in-Some w ↦ part_written g w.out-is w.in-Some.is w.put_plain.ensures
       | in_default w ↦ part_missing g w.out-is w.in_default.is (omega (arith, c.put_one.ensures.ends.count, c.put_one.ensures.ends.room, c.put_one.ensures.ends.long))
     ] in
-    holds_as c.match-above.out (λ j. of_divisor (hull c.args.left.lo c.args.left.hi) (sym c.in-Some-below.is j))
-    (rights_room o d.numbers.ordered d.no_zero c.quotient_wraps.ensures c.if-quotient_wraps.true c.requires c.put_one.ensures c.above.result c.above.ensures first c.below.result c.below.ensures)
+    any_hull c.args.left.lo c.args.left.hi c.in-Some-below.rest.numbers.lo c.in-Some-below.rest.numbers.hi _ _ _ _ c.match-above.out
+    (holds_as c.match-above.out (λ j. of_divisor (hull c.args.left.lo c.args.left.hi) (sym c.in-Some-below.is j))
+    (rights_room o d.numbers.ordered d.no_zero c.quotient_wraps.ensures c.if-quotient_wraps.true c.requires c.put_one.ensures c.above.result c.above.ensures first c.below.result c.below.ensures))
 
 pub put_plain-requires-else-quotient_wraps : goal.put_plain-requires-else-quotient_wraps
 put_plain-requires-else-quotient_wraps c =

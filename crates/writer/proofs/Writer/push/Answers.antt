@@ -5,4 +5,4 @@ use Rattle.writer.proofs.Chain.{appends_put}
 use Rattle.writer.proofs.Writer.push.Goals as goal
 
 pub returns : goal.returns
-returns g c = appends_put c.args.self.now c.copy_from_slice.ensures.after (omega arith) refl c.requires
+returns g c = appends_put c.args.self.now c.copy.ensures (omega arith) refl c.requires

@@ -16,4 +16,4 @@ pub returns : goal.returns
 returns c =
     let held = c.args.self.now.held in
     slot_stored c.args.out.now _ c.requires
-    ∙ rw (few_pos held.few, c.copy_from_slice.ensures.after) (held_slot held)
+    ∙ rw (few_pos held.few, c.copy.ensures) (held_slot held)

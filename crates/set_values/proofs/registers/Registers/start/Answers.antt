@@ -1,32 +1,23 @@
--- One slot more is that of the set that has every number. Assumes nothing.
-use mathlib.Core.Path.{refl, ap, ◌∙◌}
+-- One register more may hold any number. Assumes nothing.
+use mathlib.Core.Path.{ap, ◌∙◌}
+use mathlib.Core.List.{List}
 use native.Mathlib.Omega.{arith}
-use borrow.Rule.Slice.PartMut.{same_len_mid}
-use lib.ListN.{replicate}
-use Rattle.meaning.specs.Sheet.{registers}
-use Rattle.meaning.specs.Check.{layout}
-use Rattle.set_values.proofs.Sets.{held_sized}
-use Rattle.set_values.proofs.Layouts.{start_more, start_slots, start_is}
+use Prim.Native.Nat.{◌+◌, ◌*◌}
+use lib.IntN.{ℤ, pos}
+use lib.ListN.{set}
+use Rattle.meaning.specs.Number.{MIN, MAX}
+use Rattle.set_values.proofs.Layouts.{start_first, start_more, start_slots, start_is}
 use Rattle.set_values.proofs.registers.Registers.start.Goals as goal
 
 pub loop-r-init : goal.loop-r-init
-unfolding layout
-loop-r-init c = record { room = refl; shown = refl }
+loop-r-init c = start_first
 
 pub loop-r-preserved : goal.loop-r-preserved
 loop-r-preserved c =
-    let told = c.loop-r.invariant in
-    record {
-      room = same_len_mid _ _ _ _ c.show.auto.out ∙ told.room;
-      shown = start_more _ c.loop-r.r c.loop-r.numbers _ (held_sized c.from-any.result.held) told.shown (omega (arith, told.room)) c.show.ensures;
-    }
+    ap (λ (x : List ℤ). set (set (set x (33 * c.loop-r.r) (pos 1)) (33 * c.loop-r.r + 1) MIN) (33 * c.loop-r.r + 2) MAX) c.loop-r.invariant ∙ start_more c.loop-r.r (omega arith)
 
 pub invariant_of-result : goal.invariant_of-result
-invariant_of-result c =
-    let told = c.loop-r.invariant in
-    record { slots = start_slots (held_sized c.from-any.result.held) c.loop-r.numbers told.room (omega arith) told.shown }
+invariant_of-result c = record { slots = start_slots (omega arith) c.loop-r.invariant }
 
 pub returns : goal.returns
-returns c =
-    let told = c.loop-r.invariant in
-    start_is (held_sized c.from-any.result.held) c.loop-r.numbers told.room (omega arith) told.shown ∙ ap (replicate registers) c.from-any.ensures
+returns c = start_is (omega arith) c.loop-r.invariant
