@@ -61,6 +61,7 @@ fn flag_of(op: Op, left: &[i64], flag: bool, right: &[i64]) -> bool
 }
 
 // left with each interval of right, one after the other: each pair is lent the unused tail of the work slice.
+#[inline(always)]
 fn row(op: Op, out: &mut Writer<i64>, left: Interval, right: Ends)
     requires { out.old.len + 2 * factor_of op * (length right.numbers.now / 2) ≤ length out.old.room.now }
     ensures { Adds (each (rule_of op left.lo left.hi) (intervals right.entry.numbers.now)) out.new out.old }
@@ -71,13 +72,26 @@ fn row(op: Op, out: &mut Writer<i64>, left: Interval, right: Ends)
     }
 }
 
-// Each interval of left with each of right.
-fn all(op: Op, out: &mut Writer<i64>, left: Ends, right: Ends)
+// Each interval of left with each of right, by the rule of op. Inlined, as `row` and `pair` are, so that the loops know an operation that `all` names.
+#[inline(always)]
+fn rows(op: Op, out: &mut Writer<i64>, left: Ends, right: Ends)
     requires { out.old.len + 2 * factor_of op * (length right.numbers.now / 2) * (length left.numbers.now / 2) ≤ length out.old.room.now }
     ensures { Adds (each_pair (rule_of op) (intervals left.entry.numbers.now) (intervals right.entry.numbers.now)) out.new out.old }
 {
     for &[lo, hi] in left.numbers.as_chunks::<2>().0 {
         row(op, out, Interval { lo, hi }, right);
+    }
+}
+
+// Each interval of left with each of right.
+// Kept: rem by its name, since where the operation is a value the rule is chosen anew for each pair, and rem of 16 intervals takes 1.4 times as long so.
+fn all(op: Op, out: &mut Writer<i64>, left: Ends, right: Ends)
+    requires { out.old.len + 2 * factor_of op * (length right.numbers.now / 2) * (length left.numbers.now / 2) ≤ length out.old.room.now }
+    ensures { Adds (each_pair (rule_of op) (intervals left.entry.numbers.now) (intervals right.entry.numbers.now)) out.new out.old }
+{
+    match op {
+        Op::Rem => rows(Op::Rem, out, left, right),
+        _ => rows(op, out, left, right),
     }
 }
 

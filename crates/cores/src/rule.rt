@@ -19,6 +19,7 @@ use writer::Writer;
 // The results of left and right, written from the front of the unused tail of the work slice; returns how many numbers these are.
 // Kept: lent the tail, and not the writer that `row` has, by a rule of the project.
 // Kept: a match in place of a trait, since each row is a call of its own, and the operation is a value read from a text.
+#[inline(always)]
 #[tactic(auto, unfolding(meaning::specs::SetCalls::factor1, meaning::specs::SetCalls::factor2))]
 pub fn pair(op: Op, tail: &mut [i64], left: Interval, right: Interval) -> usize
     requires { 2 * factor_of op ≤ length tail.old }

@@ -15,10 +15,13 @@ use lines::{Line, read_line};
 use refusals::{Cause, Trouble};
 
 // Where the first LF of the text stands.
+// Kept: a count of the bytes before it in place of `position`, whose loop is longer: where that lies across 32 bytes of a program, the line finder takes
+// half as long again.
 fn first_lf(text: &[u8]) -> Option<usize>
     ensures { result ≡ position (λ byte. byte == 10) text.now }
 {
-    text.iter().position(|byte| *byte == b'\n')
+    let end = text.iter().take_while(|byte| **byte != b'\n').count();
+    (end < text.len()).then_some(end)
 }
 
 // The lines of a text in order, each without its LF.

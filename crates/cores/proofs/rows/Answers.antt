@@ -5,7 +5,7 @@ use Rattle.laws.proofs.Members.{normal_proper}
 use Rattle.writer.proofs.Pairs.{first, second}
 use Rattle.cores.proofs.Joined.{row_few}
 use Rattle.cores.proofs.Fill.{fill_start, next_proper, next_room, fill_next, fill_done}
-use Rattle.cores.proofs.all.Goals as goal
+use Rattle.cores.proofs.rows.Goals as goal
 
 pub loop-lo-init : goal.loop-lo-init
 loop-lo-init c = fill_start _ _ _ _ (normal_proper _ c.args.left.set.is) c.requires
