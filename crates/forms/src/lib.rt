@@ -62,13 +62,28 @@ pub trait Algebra {
         ensures value { meaning result ≡ (algebra self.old).on_reg r }
         ensures same { algebra self.new ≡ algebra self.old };
 
-    fn one(&mut self, op: Op1, a: &Self::Value) -> Self::Value
-        ensures value { meaning result ≡ (algebra self.old).on1 (op1_of op) (meaning a.now) }
+    fn one(&mut self, op: Op1, a: Self::Value) -> Self::Value
+        ensures value { meaning result ≡ (algebra self.old).on1 (op1_of op) (meaning a) }
         ensures same { algebra self.new ≡ algebra self.old };
 
-    fn two(&mut self, op: Op2, a: &Self::Value, b: &Self::Value) -> Self::Value
-        ensures value { meaning result ≡ (algebra self.old).on2 (op2_of op) (meaning a.now) (meaning b.now) }
+    fn two(&mut self, op: Op2, a: Self::Value, b: Self::Value) -> Self::Value
+        ensures value { meaning result ≡ (algebra self.old).on2 (op2_of op) (meaning a) (meaning b) }
         ensures same { algebra self.new ≡ algebra self.old };
+
+    // The same of values that are lent, which the reading calls. An algebra may write this and `two_lent` itself, as all of this library do, so that no value is copied.
+    fn one_lent(&mut self, op: Op1, a: &Self::Value) -> Self::Value
+        ensures value { meaning result ≡ (algebra self.old).on1 (op1_of op) (meaning a.now) }
+        ensures same { algebra self.new ≡ algebra self.old }
+    {
+        self.one(op, *a)
+    }
+
+    fn two_lent(&mut self, op: Op2, a: &Self::Value, b: &Self::Value) -> Self::Value
+        ensures value { meaning result ≡ (algebra self.old).on2 (op2_of op) (meaning a.now) (meaning b.now) }
+        ensures same { algebra self.new ≡ algebra self.old }
+    {
+        self.two(op, *a, *b)
+    }
 }
 
 // How a form begins.
@@ -184,7 +199,7 @@ fn read_form<A: Algebra>(text: &[u8], depth: usize, algebra: &mut A) -> Option<G
         }
         Head::One(op) => {
             let a = read_arg(tail(text, k), depth, algebra)?;
-            closed(text, k + a.len, algebra.one(op, &a.value))
+            closed(text, k + a.len, algebra.one_lent(op, &a.value))
         }
         Head::Two(op) => {
             let a = read_arg(tail(text, k), depth, algebra)?;
@@ -193,7 +208,7 @@ fn read_form<A: Algebra>(text: &[u8], depth: usize, algebra: &mut A) -> Option<G
             }
             let j = k + a.len + 1;
             let b = read_arg(&text[j..], depth, algebra)?;
-            closed(text, j + b.len, algebra.two(op, &a.value, &b.value))
+            closed(text, j + b.len, algebra.two_lent(op, &a.value, &b.value))
         }
     }
 }
@@ -233,11 +248,19 @@ impl Algebra for Sizes {
         0
     }
 
-    fn one(&mut self, _op: Op1, a: &usize) -> usize {
+    fn one(&mut self, op: Op1, a: usize) -> usize {
+        self.one_lent(op, &a)
+    }
+
+    fn two(&mut self, op: Op2, a: usize, b: usize) -> usize {
+        self.two_lent(op, &a, &b)
+    }
+
+    fn one_lent(&mut self, _op: Op1, a: &usize) -> usize {
         *a
     }
 
-    fn two(&mut self, _op: Op2, a: &usize, b: &usize) -> usize {
+    fn two_lent(&mut self, _op: Op2, a: &usize, b: &usize) -> usize {
         (*a).max(*b)
     }
 }

@@ -16,6 +16,7 @@ use Rattle.laws.proofs.Work.{judge_worked}
 use Rattle.writer.specs.declared.Writer.{Writer}
 use Rattle.writer.specs.Written.{Fits, Appends}
 use Rattle.writer.proofs.Partly.{Partly, partly_as, partly_fits, partly_next, partly_done}
+use Rattle.sheet.specs.Judging.{IsSheet}
 use Rattle.set_values.specs.Value.{sets_of, bands_of}
 use Rattle.sheet_check.specs.Checked.{Checked}
 use Rattle.sheet_check.specs.declared.Passed.{Passed}
@@ -27,6 +28,10 @@ use Rattle.listed.proofs.Marks.{marks_listed}
 -- ---- a text that passes
 
 module _ (t : List ℕ) (p : Passed) (e : Checked (Ok p) (check_text interval_limit t)) where
+  pub passed_sheet : IsSheet t p.count
+  unfolding text_by
+  passed_sheet = let w = judge_worked (check interval_limit) (read t) e in record { lines = w.lines; reads = w.reads; count = w.count }
+
   pub passed_shows : {m : List Bool} → m ≡ marks_of t → Shows t (record { count = p.count; marks = m; registers = p.registers })
   unfolding text_by
   passed_shows {m} h =

@@ -23,9 +23,17 @@ pub trait RegisterText {
     ghost text: { ℕ → Set → List ℕ };
 
     // Of register r with this set.
-    fn write(out: &mut Writer<u8>, r: usize, set: &FormSet)
+    fn write(out: &mut Writer<u8>, r: usize, set: FormSet)
+        requires { (r < registers) × Fits (text r (set_of set)) out.old }
+        ensures { Appends (text r (set_of set)) out.new out.old };
+
+    // The same of a set that is lent, which `Shown::write` calls. A part that can read the set where it lies writes this itself, so that none is copied.
+    fn write_lent(out: &mut Writer<u8>, r: usize, set: &FormSet)
         requires { (r < registers) × Fits (text r (set_of set.now)) out.old }
-        ensures { Appends (text r (set_of set.now)) out.new out.old };
+        ensures { Appends (text r (set_of set.now)) out.new out.old }
+    {
+        Self::write(out, r, *set);
+    }
 }
 
 // Marks the register of a line's `in` or `put`.
@@ -97,7 +105,7 @@ impl Shown {
     {
         for r in 0..REGISTERS {
             if let Some(set) = &self.set(r) {
-                T::write(out, r, set);
+                T::write_lent(out, r, set);
             }
         }
     }

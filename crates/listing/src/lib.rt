@@ -24,8 +24,12 @@ struct RegisterLine;
 impl RegisterText for RegisterLine {
     ghost text = { register_line };
 
+    fn write(out: &mut Writer<u8>, r: usize, set: FormSet) {
+        Self::write_lent(out, r, &set);
+    }
+
     #[tactic(auto, using(laws::proofs::Flat::intervals_flat))]
-    fn write(out: &mut Writer<u8>, r: usize, set: &FormSet) {
+    fn write_lent(out: &mut Writer<u8>, r: usize, set: &FormSet) {
         register_line(out, r, set.ends().set.numbers);
     }
 }

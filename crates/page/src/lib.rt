@@ -25,7 +25,11 @@ struct RegisterLines;
 impl RegisterText for RegisterLines {
     ghost text = { λ r s. rows_text (set_rows r s) };
 
-    fn write(out: &mut Writer<u8>, r: usize, set: &FormSet) {
+    fn write(out: &mut Writer<u8>, r: usize, set: FormSet) {
+        Self::write_lent(out, r, &set);
+    }
+
+    fn write_lent(out: &mut Writer<u8>, r: usize, set: &FormSet) {
         register_lines(out, r, set.ends().set.numbers);
     }
 }

@@ -68,14 +68,22 @@ impl Algebra for Values<'_> {
         Ok(self.state[r])
     }
 
+    fn one(&mut self, op: Op1, a: Result<i64, Cause>) -> Result<i64, Cause> {
+        self.one_lent(op, &a)
+    }
+
+    fn two(&mut self, op: Op2, a: Result<i64, Cause>, b: Result<i64, Cause>) -> Result<i64, Cause> {
+        self.two_lent(op, &a, &b)
+    }
+
     #[tactic(auto, unfolding(crate::specs::Answer::with1, meaning::specs::Outcome::bind))]
-    fn one(&mut self, op: Op1, a: &Result<i64, Cause>) -> Result<i64, Cause> {
+    fn one_lent(&mut self, op: Op1, a: &Result<i64, Cause>) -> Result<i64, Cause> {
         Ok(unary(op, (*a)?))
     }
 
     // The left argument's trouble comes first.
     #[tactic(auto, unfolding(crate::specs::Answer::with2, meaning::specs::Outcome::bind))]
-    fn two(
+    fn two_lent(
         &mut self,
         op: Op2,
         a: &Result<i64, Cause>,

@@ -38,12 +38,25 @@ impl Algebra for Sets<'_> {
         Ok(self.registers.set(r))
     }
 
-    fn one(&mut self, op: Op1, a: &Result<FormSet, Cause>) -> Result<FormSet, Cause> {
+    fn one(&mut self, op: Op1, a: Result<FormSet, Cause>) -> Result<FormSet, Cause> {
+        self.one_lent(op, &a)
+    }
+
+    fn two(
+        &mut self,
+        op: Op2,
+        a: Result<FormSet, Cause>,
+        b: Result<FormSet, Cause>,
+    ) -> Result<FormSet, Cause> {
+        self.two_lent(op, &a, &b)
+    }
+
+    fn one_lent(&mut self, op: Op1, a: &Result<FormSet, Cause>) -> Result<FormSet, Cause> {
         apply1(op, a, self.work)
     }
 
     // The left argument's trouble comes first.
-    fn two(
+    fn two_lent(
         &mut self,
         op: Op2,
         a: &Result<FormSet, Cause>,

@@ -73,15 +73,18 @@ module _ (old : List ℤ) (count : ℕ) (flag : Bool) where
         omega (arith, two_ends (take count old) some, length-take-le count old r)
 
     module _ {new : List ℤ} {n : ℕ} (h : Closed interval_limit (take count old) new n) where
+      pub closed_few : SoundResult (settle interval_limit (intervals (take count old)) flag) → Few (take n new)
+      closed_few s = rw h.front (flat_few (rw unflagged at s))
+
       pub closed_is : {s : Set} → s ≡ intervals (take n new) → ok s ≡ settle interval_limit (intervals (take count old)) flag
       closed_is e =
           ap (λ (x : Set). ok x) (e ∙ ap intervals h.front ∙ intervals_flat (close interval_limit (intervals (take count old)))) ∙ sym unflagged
 
 -- closed to any limit of 1 to 16 intervals, the ends of a set that is not empty are those of a form's set
-pub closed_few
+pub any_closed_few
     : (old : List ℤ) (count : ℕ) {limit : ℕ} {new : List ℤ} {n : ℕ} → Closed limit (take count old) new n → 1 ≤ limit → limit ≤ interval_limit
     → count ≤ length old → Ends (take count old) → 2 ≤ count → Few (take n new)
-closed_few old count {limit} h o l r e t =
+any_closed_few old count {limit} h o l r e t =
     let some = some_ends (take count old) (omega (arith, length-take-le count old r)) in
     rw h.front (flat_few (closed_sound limit _ o l e.normal some))
 

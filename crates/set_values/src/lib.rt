@@ -25,7 +25,7 @@ use sets::{Ends, Operand};
 use writer::Writer;
 
 // What a form's answer leaves: a zero divisor if its flag is set, else its set with gaps closed until 16 intervals remain.
-#[tactic(auto, using(crate::proofs::Settling::flagged, crate::proofs::Settling::passed_two, crate::proofs::Settling::closed_few, crate::proofs::Settling::closed_is))]
+#[tactic(auto, using(crate::proofs::Settling::flagged, crate::proofs::Settling::passed_two, crate::proofs::Settling::any_closed_few, crate::proofs::Settling::closed_is))]
 #[inline(always)]
 fn settle(work: &mut [i64; WORK], answer: Written) -> Result<FormSet, Cause>
     requires { Settles answer work.old }

@@ -87,8 +87,8 @@ read_form-returns-in_ok-r-in-Reg-clause-value g t c =
 
 pub read_form-returns-in_ok-a-in-One-clause-value : goal.read_form-returns-in_ok-a-in-One-clause-value
 read_form-returns-in_ok-a-in-One-clause-value g t c =
-    rw c.closed-in-One.ensures (closed_map g.A.Algebra.meaning c.args.text.now _ _ (c.one.ensures.value ∙ ap (λ (alg : Algebra g.A.Algebra.Meaning). alg.on1 (op1_of c.in-One.op) (g.A.Algebra.meaning c.in_ok-a-in-One.a.value)) c.in_ok-a-in-One.ensures.same) ∙ form_one (g.A.Algebra.algebra c.args.algebra.now) c.args.text.now c.args.depth c.start-k.ensures c.tail-in-One.ensures (opened c.args.text.now c.in-One.is c.in_ok-read_head.ensures) c.in_ok-a-in-One.ensures.value)
+    rw c.closed-in-One.ensures (closed_map g.A.Algebra.meaning c.args.text.now _ _ (c.one_lent.ensures.value ∙ ap (λ (alg : Algebra g.A.Algebra.Meaning). alg.on1 (op1_of c.in-One.op) (g.A.Algebra.meaning c.in_ok-a-in-One.a.value)) c.in_ok-a-in-One.ensures.same) ∙ form_one (g.A.Algebra.algebra c.args.algebra.now) c.args.text.now c.args.depth c.start-k.ensures c.tail-in-One.ensures (opened c.args.text.now c.in-One.is c.in_ok-read_head.ensures) c.in_ok-a-in-One.ensures.value)
 
 pub read_form-returns-in_ok-b-in-Two-clause-value : goal.read_form-returns-in_ok-b-in-Two-clause-value
 read_form-returns-in_ok-b-in-Two-clause-value g t c =
-    rw c.closed-in-Two.ensures (closed_map g.A.Algebra.meaning c.args.text.now _ _ (c.two.ensures.value ∙ ap (λ (alg : Algebra g.A.Algebra.Meaning). alg.on2 (op2_of c.in-Two.op) (g.A.Algebra.meaning c.in_ok-a-in-Two.a.value) (g.A.Algebra.meaning c.in_ok-b-in-Two.b.value)) (c.in_ok-b-in-Two.ensures.same ∙ c.in_ok-a-in-Two.ensures.same)) ∙ form_two (g.A.Algebra.algebra c.args.algebra.now) c.args.text.now c.args.depth c.start-k.ensures c.tail-in-Two.ensures (opened c.args.text.now c.in-Two.is c.in_ok-read_head.ensures) c.in_ok-a-in-Two.ensures.value c.at.ensures c.if-at-ne32.false c.in_ok-a-in-Two.ensures.same (rest_is c.args.text.now ((c.start-k.result + c.in_ok-a-in-Two.a.len) + 1)) (c.in_ok-b-in-Two.ensures.value))
+    rw c.closed-in-Two.ensures (closed_map g.A.Algebra.meaning c.args.text.now _ _ (c.two_lent.ensures.value ∙ ap (λ (alg : Algebra g.A.Algebra.Meaning). alg.on2 (op2_of c.in-Two.op) (g.A.Algebra.meaning c.in_ok-a-in-Two.a.value) (g.A.Algebra.meaning c.in_ok-b-in-Two.b.value)) (c.in_ok-b-in-Two.ensures.same ∙ c.in_ok-a-in-Two.ensures.same)) ∙ form_two (g.A.Algebra.algebra c.args.algebra.now) c.args.text.now c.args.depth c.start-k.ensures c.tail-in-Two.ensures (opened c.args.text.now c.in-Two.is c.in_ok-read_head.ensures) c.in_ok-a-in-Two.ensures.value c.at.ensures c.if-at-ne32.false c.in_ok-a-in-Two.ensures.same (rest_is c.args.text.now ((c.start-k.result + c.in_ok-a-in-Two.a.len) + 1)) (c.in_ok-b-in-Two.ensures.value))

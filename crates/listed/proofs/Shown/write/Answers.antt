@@ -10,8 +10,8 @@ use Rattle.listed.proofs.Shown.write.Goals.{in-Some, in_default}
 pub loop-r-init : goal.loop-r-init
 loop-r-init g c = partly_start _ _ c.requires
 
-pub write-requires : goal.write-requires
-write-requires g c =
+pub write_lent-requires : goal.write_lent-requires
+write_lent-requires g c =
     let h : c.loop-r.r < registers = omega arith in
     (omega arith, piece_fits g.T.RegisterText.text c.args.self.now c.loop-r.r c.loop-r.invariant h (rw c.in-Some.is at c.set.ensures) c.requires)
 
@@ -22,7 +22,7 @@ loop-r-preserved g c =
     let r = c.loop-r.r in
     let h : r < registers = omega arith in
     elim c.match-set.branch [
-      | in-Some w ↦ rw w.out-is (piece_next text s r c.loop-r.invariant h (rw w.in-Some.is at c.set.ensures) w.write.ensures)
+      | in-Some w ↦ rw w.out-is (piece_next text s r c.loop-r.invariant h (rw w.in-Some.is at c.set.ensures) w.write_lent.ensures)
       | in_default w ↦ rw w.out-is (piece_none text s r c.loop-r.invariant h (rw w.in_default.is at c.set.ensures))
     ]
 

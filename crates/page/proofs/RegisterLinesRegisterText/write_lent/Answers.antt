@@ -3,7 +3,7 @@ use mathlib.Core.Path.{ap}
 use native.Mathlib.Omega.{arith}
 use Rattle.writer.proofs.Chain.{appends_as}
 use Rattle.page.proofs.Rows.{lines_of, ends_are, ends_normal, ends_fit}
-use Rattle.page.proofs.RegisterLinesRegisterText.write.Goals as goal
+use Rattle.page.proofs.RegisterLinesRegisterText.write_lent.Goals as goal
 
 pub register_lines-requires : goal.register_lines-requires
 register_lines-requires c =
